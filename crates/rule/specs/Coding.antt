@@ -1,0 +1,62 @@
+-- Document 01, "Prediction, encoding, decoding", over the width W, the order k and any predictor p, which is handed the k samples before a place.
+use mathlib.Core.Bool.{cond}
+use mathlib.Core.List.{List, [], _∷_, _++_}
+use Prim.Native.Nat.{ℕ, suc, zero, _+_, _-_, _%_, _^_}
+use lib.Dec.{ltb}
+use lib.ListN.{length, getD, take, drop, replicate}
+use Rattle.rule.specs.Numbers.{centre}
+
+-- f 0, f 1, .. f (n - 1)
+abbrev pub tabulate : ℕ → (ℕ → ℕ) → List ℕ
+tabulate zero f = []
+tabulate (suc n) f = tabulate n f ++ f n ∷ []
+
+-- the k samples before place i
+unfoldable pub window : ℕ → ℕ → List ℕ → List ℕ
+window k i xs = take k (drop (i - k) xs)
+
+-- MID added, or taken away, which is the same
+unfoldable pub toggled : ℕ → ℕ → ℕ
+toggled W x = (x + centre W) % 2 ^ W
+
+-- sample - prediction + MID
+unfoldable pub residual : ℕ → ℕ → ℕ → ℕ
+residual W x y = (x + (2 ^ W - y) + centre W) % 2 ^ W
+
+-- place i of the encoded buffer, from the original samples
+unfoldable pub codedAt : ℕ → ℕ → (List ℕ → ℕ) → List ℕ → ℕ → ℕ
+codedAt W k p xs i = cond (ltb i k) (toggled W (getD xs i 0)) (residual W (getD xs i 0) (p (window k i xs)))
+
+unfoldable pub encodedBuffer : ℕ → ℕ → (List ℕ → ℕ) → List ℕ → List ℕ
+encodedBuffer W k p xs = tabulate (length xs) (codedAt W k p xs)
+
+-- the saved state: the first k samples, in an array of 32 whose places past k are 0
+unfoldable pub savedState : ℕ → List ℕ → List ℕ
+savedState k xs = take k xs ++ replicate (32 - k) 0
+
+-- MID taken from a residual, then the prediction added
+unfoldable pub restored : ℕ → ℕ → ℕ → ℕ
+restored W r y = (toggled W r + y) % 2 ^ W
+
+-- the sample that a residual gives, predicted from the last k of the samples known so far
+unfoldable pub sampleOf : ℕ → ℕ → (List ℕ → ℕ) → List ℕ → ℕ → ℕ
+sampleOf W k p known r = restored W r (p (drop (length known - k) known))
+
+-- the list "known, then new samples"
+abbrev pub extended : ℕ → ℕ → (List ℕ → ℕ) → List ℕ → List ℕ → List ℕ
+extended W k p known [] = known
+extended W k p known (r ∷ rs) = extended W k p (known ++ sampleOf W k p known r ∷ []) rs
+
+-- of "state, then new samples", the first m replace the piece of m residuals, and the last k are the new state
+unfoldable pub decodedPiece : ℕ → ℕ → (List ℕ → ℕ) → List ℕ → List ℕ → List ℕ
+decodedPiece W k p state piece = take (length piece) (extended W k p state piece)
+
+unfoldable pub newState : ℕ → ℕ → (List ℕ → ℕ) → List ℕ → List ℕ → List ℕ
+newState W k p state piece = drop (length piece) (extended W k p state piece)
+
+-- the same for a state in its array: the first k places are read, and the places past them are kept
+abbrev pub pieceFrom : ℕ → ℕ → (List ℕ → ℕ) → List ℕ → List ℕ → List ℕ
+pieceFrom W k p samples piece = decodedPiece W k p (take k samples) piece
+
+abbrev pub arrayAfter : ℕ → ℕ → (List ℕ → ℕ) → List ℕ → List ℕ → List ℕ
+arrayAfter W k p samples piece = newState W k p (take k samples) piece ++ drop k samples

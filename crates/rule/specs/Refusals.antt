@@ -1,0 +1,53 @@
+-- Document 01, "Refusal numbers", for coding: each test alone, and the order in which a call makes them.
+use mathlib.Core.Bool.{Bool, not, _&&_}
+use mathlib.Core.List.{List}
+use Prim.Native.Nat.{ℕ}
+use lib.Dec.{leb, ltb, eqb}
+use lib.IntN.{ℤ}
+use lib.ListN.{length}
+use Rattle.kinds.specs.declared.Order.{Order}
+use Rattle.kinds.specs.declared.Shift.{Shift}
+use Rattle.kinds.specs.declared.Answer.{Answer}
+use Rattle.kinds.specs.declared.Answer.the-variants.{Done, BadOrder, BadShift, Overflows, BadLength, TooFewSamples}
+use Rattle.kinds.specs.Answers.{refuse, whenDone}
+use Rattle.rule.specs.Numbers.{accumulator}
+use Rattle.rule.specs.Prediction.{admitted, prediction}
+
+-- a configuration as a call is given it: the order, the shift, the bias and the weights
+pub record Config : Type 0 where
+  pub order : ℕ
+  pub shift : ℕ
+  pub bias : ℤ
+  pub weights : List ℤ
+
+abbrev pub config : Order → Shift → ℤ → List ℤ → Config
+config order shift bias weights = record { order = order .0; shift = shift .0; bias = bias; weights = weights }
+
+-- the predictor of a configuration at the width W
+abbrev pub predictor : ℕ → Config → List ℕ → ℕ
+predictor W c = prediction W (c .shift) (c .bias) (c .weights)
+
+-- 1 to 32
+abbrev pub orderFits : ℕ → Bool
+orderFits k = leb 1 k && leb k 32
+
+-- 0 to A-1
+abbrev pub shiftFits : ℕ → ℕ → Bool
+shiftFits W q = ltb q (accumulator W)
+
+-- tests 1, 2, 4, 3; a call with no state to test gives the order for the state's length
+unfoldable pub codingRefusal : ℕ → Config → ℕ → Answer
+codingRefusal W c count =
+    refuse (not (orderFits (c .order))) BadOrder
+    (refuse (not (shiftFits W (c .shift))) BadShift
+    (refuse (not (eqb (length (c .weights)) (c .order) && eqb count (c .order))) BadLength
+    (refuse (not (admitted W (c .bias) (c .weights))) Overflows Done)))
+
+-- encoding has no state to be given, and then makes test 5
+unfoldable pub encodingRefusal : ℕ → Config → ℕ → Answer
+encodingRefusal W c n =
+    whenDone (codingRefusal W c (c .order)) (refuse (ltb n (c .order)) TooFewSamples Done) (codingRefusal W c (c .order))
+
+-- the fast way takes order 6 alone
+unfoldable pub orderSixRefusal : ℕ → Config → ℕ → Answer
+orderSixRefusal W c count = refuse (not (eqb (c .order) 6)) BadOrder (codingRefusal W c count)
