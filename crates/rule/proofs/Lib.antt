@@ -1,2 +1,5 @@
 pub mod Sizes
 pub mod Sums
+pub mod Wrapping
+pub mod Filling
+pub mod Windows

@@ -7,7 +7,7 @@ use lib.ListN.{length, getD, take, drop, replicate}
 use Rattle.rule.specs.Numbers.{centre}
 
 -- f 0, f 1, .. f (n - 1)
-abbrev pub tabulate : ℕ → (ℕ → ℕ) → List ℕ
+abbrev pub tabulate : {A : Type 0} → ℕ → (ℕ → A) → List A
 tabulate zero f = []
 tabulate (suc n) f = tabulate n f ++ f n ∷ []
 

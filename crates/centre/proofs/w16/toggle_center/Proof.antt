@@ -1,0 +1,15 @@
+-- The wrapping sum is the definition. Assumes nothing.
+use borrow.Author.Needs.{needs}
+use Rattle.rule.specs.Coding.{toggled}
+use Rattle.centre.proofs.w16.toggle_center.Statement.{statement}
+use Rattle.centre.proofs.w16.toggle_center.Tie as tie
+
+wrapping-add-u16-requires : tie.Need-wrapping-add-u16-requires
+wrapping-add-u16-requires c κs = search needs
+
+returns : tie.Need-returns
+unfolding toggled
+returns c = c .wrapping-add-u16 .ensures
+
+pub toggle-center-spec : {M : Type 1} → statement M
+toggle-center-spec = tie.close (tie.spec wrapping-add-u16-requires returns)

@@ -1,0 +1,38 @@
+-- A negative sum becomes 0; of any other the shift is a division and the remainder a reduction. Assumes nothing.
+use mathlib.Core.Path.{_≡_, ap, _∙_}
+use Prim.Native.Nat.{ℕ, _/_, _%_, _^_}
+use borrow.Author.Needs.{needs}
+use lib.IntN.{natAbs}
+use mir.Facts.{toZ-ofZ, fits-natAbs}
+use mir.Syntax.{w32 as acc}
+use mir.Val.{toZ, ofZ}
+use Rattle.prediction.proofs.Summing as summing
+use Rattle.prediction.proofs.w16.settle.Statement.{statement}
+use Rattle.prediction.proofs.w16.settle.Tie as tie
+
+sum-is : (c : tie.Start) → toZ acc (ofZ acc (c .args .s)) ≡ c .args .s
+sum-is c = toZ-ofZ (c .fits .s)
+
+returns : tie.Need-returns
+returns c = summing.settle-negative 16 (c .before .args .shift .0) (c .before .args .s) (rw (sum-is (c .before)) at (c .if1 .taken))
+
+cast-shifted-down : tie.Need-cast-shifted-down
+cast-shifted-down c = (
+  summing.not-negative (toZ acc (ofZ acc (c .before .args .s))) (c .if1 .left),
+  rw (sum-is (c .before)) (fits-natAbs tt (c .before .fits .s)),
+)
+
+shifted-down-requires : tie.Need-shifted-down-requires
+shifted-down-requires c κs = search needs
+
+cast-value : tie.Need-cast-value
+cast-value c = search needs
+
+returns-2 : tie.Need-returns-2
+returns-2 c =
+    let a = c .before .before in
+    let e = rw (sum-is a) at (c .shifted-down .ensures) in
+    ap (λ (n : ℕ). n % 2 ^ 16) e ∙ summing.settle-shifted 16 (a .args .shift .0) (a .args .s) (rw (sum-is a) at (c .before .if1 .left))
+
+pub settle-spec : {M : Type 1} → statement M
+settle-spec = tie.close (tie.spec returns cast-shifted-down shifted-down-requires cast-value returns-2)

@@ -1,0 +1,68 @@
+-- A loop that fills a list from the front, one place a turn: with a table's values, or with another list's elements.
+-- Assumes nothing.
+use mathlib.Core.Path.{_≡_, refl, sym, ap, ap₂, _∙_}
+use mathlib.Core.List.{List, [], _∷_, _++_, append-assoc, append-nil}
+use Prim.Native.Nat.{ℕ, zero, suc, _+_, _-_, _<_, _≤_}
+use native.Mathlib.Numerals.{add-one}
+use native.Mathlib.Omega.{arith}
+use mathlib.Core.Logic.{⊎-elim}
+use native.Mathlib.Nat.{not-suc-le-zero, eq-or-lt-of-le, le-of-suc-le-suc, sub-zero, zero-sub, suc-sub-suc}
+use lib.ListN.{length, getD, take, drop, set, replicate, length-append, length-drop, List·getD-append}
+use lib.Seq.{drop-cons, set-at, take-suc, length-take-le, drop-length, getD-at}
+use Rattle.rule.specs.Coding.{tabulate}
+
+module _ {A : Type 0} where
+  pub length-tabulate : (n : ℕ) (f : ℕ → A) → length (tabulate n f) ≡ n
+  length-tabulate zero f = refl
+  length-tabulate (suc n) f = length-append (tabulate n f) (f n ∷ []) ∙ ap (λ (m : ℕ). m + 1) (length-tabulate n f) ∙ add-one n
+
+  pub getD-tabulate : (n : ℕ) (f : ℕ → A) (i : ℕ) (d : A) → i < n → getD (tabulate n f) i d ≡ f i
+  getD-tabulate zero f i d h = absurd (not-suc-le-zero h)
+  getD-tabulate (suc n) f i d h =
+      ⊎-elim
+      (λ (e : i ≡ n). rw e (getD-at (tabulate n f) (f n) [] d n (length-tabulate n f)))
+      (λ (k : i < n). List·getD-append (tabulate n f) (f n ∷ []) d i (rw (length-tabulate n f) k) ∙ getD-tabulate n f i d k)
+      (eq-or-lt-of-le (le-of-suc-le-suc h))
+
+  pub tabulate-same : (n : ℕ) (f g : ℕ → A) → ((i : ℕ) → i < n → f i ≡ g i) → tabulate n f ≡ tabulate n g
+  tabulate-same zero f g h = refl
+  tabulate-same (suc n) f g h =
+      ap₂ (λ (l : List A) (a : A). l ++ a ∷ []) (tabulate-same n f g (λ i k. h i (omega arith))) (h n (omega arith))
+
+  -- the place after the i filled ones
+  set-next : (p z : List A) (i : ℕ) (v d : A) → length p ≡ i → i < length z → set (p ++ drop i z) i v ≡ (p ++ v ∷ []) ++ drop (i + 1) z
+  set-next p z i v d e h = rw (add-one, drop-cons z i d, set-at p (getD z i d) (drop (suc i) z) v i e, append-assoc)
+
+  tabulate-next : (f : ℕ → A) (z : List A) (i : ℕ) (v d : A) → i < length z → v ≡ f i → set (tabulate i f ++ drop i z) i v ≡ tabulate (i + 1) f ++ drop (i + 1) z
+  tabulate-next f z i v d h e = set-next (tabulate i f) z i v d (length-tabulate i f) h ∙ rw (e, add-one)
+
+  pub copy-next : (s z : List A) (i : ℕ) (d : A) → i < length s → i < length z → set (take i s ++ drop i z) i (getD s i d) ≡ take (i + 1) s ++ drop (i + 1) z
+  copy-next s z i d hs hz =
+      let h : i ≤ length s = omega arith in
+      set-next (take i s) z i (getD s i d) d (length-take-le i s h) hz ∙ rw (add-one, take-suc s i d)
+
+  pub drop-replicate : (n i : ℕ) (a : A) → drop i (replicate n a) ≡ replicate (n - i) a
+  drop-replicate n zero a = rw sub-zero
+  drop-replicate zero (suc i) a = rw zero-sub
+  drop-replicate (suc n) (suc i) a = rw suc-sub-suc (drop-replicate n i a)
+
+-- l is z with its first i places filled from the table f
+pub record Filled {A : Type 0} (f : ℕ → A) (z l : List A) (i : ℕ) : Type 0 where
+  pub at : i ≤ length z
+  pub is : l ≡ tabulate i f ++ drop i z
+
+module _ {A : Type 0} {f : ℕ → A} {z : List A} where
+  pub fill-begin : Filled f z z 0
+  fill-begin = record { at = omega arith; is = refl }
+
+  pub fill-length : {l : List A} {i : ℕ} → Filled f z l i → length l ≡ length z
+  fill-length {l} {i} k =
+      ap length (k .is) ∙ length-append (tabulate i f) (drop i z) ∙ omega (arith, length-tabulate i f, length-drop i z, k .at)
+
+  pub fill-turn : {l : List A} {i : ℕ} {v : A} (d : A) → i < length z → v ≡ f i → Filled f z l i → Filled f z (set l i v) (i + 1)
+  fill-turn {l} {i} {v} d h e k = record { at = omega arith; is = rw (k .is) (tabulate-next f z i v d h e) }
+
+  pub fill-end : {l : List A} {i : ℕ} → Filled f z l i → length z ≤ i → l ≡ tabulate (length z) f
+  fill-end {l} {i} k h =
+      let e : i ≡ length z = omega (arith, k .at) in
+      k .is ∙ rw (e, drop-length, append-nil)
