@@ -13,7 +13,7 @@ ghost use lib.ListN.{length};
 ghost use Rattle.kinds.specs.Widths.{bitsOf};
 ghost use Rattle.rule.specs.Numbers.{greatest, accumulator, limit};
 ghost use Rattle.rule.specs.Prediction.{sumAbs, admitted};
-ghost use Rattle.rule.specs.Refusals.{config, orderFits, shiftFits, codingRefusal};
+ghost use Rattle.rule.specs.Refusals.{config, orderFits, shiftFits, codingRefusal, encodingRefusal};
 
 // M, the greatest sample.
 fn greatest_sample(width: Width) -> u64
@@ -107,16 +107,16 @@ pub fn is_length(order: Order, count: SampleCount) -> bool
     count.0 == order.0
 }
 
-// Tests 1, 2, 4, 3. A call with no state to test gives the order for its count.
+// Tests 1, 2, 4, 3, where a state of `state` samples is given.
 pub fn coding_answer(
     width: Width,
     order: Order,
     shift: Shift,
     bias: i64,
     weights: &[i32],
-    count: SampleCount,
+    state: SampleCount,
 ) -> Answer
-    ensures { λ r. ⌜ r ≡ codingRefusal (bitsOf width) (config order shift bias (now (weights .entry))) (count .0) ⌝ }
+    ensures { λ r. ⌜ r ≡ codingRefusal (bitsOf width) (config order shift bias (now (weights .entry))) (state .0) ⌝ }
 {
     if !is_order(order) {
         return Answer::BadOrder;
@@ -127,11 +127,33 @@ pub fn coding_answer(
     if !is_length(order, SampleCount(weights.len())) {
         return Answer::BadLength;
     }
-    if !is_length(order, count) {
+    if !is_length(order, state) {
         return Answer::BadLength;
     }
     if !is_admitted(width, bias, weights) {
         return Answer::Overflows;
+    }
+    Answer::Done
+}
+
+// The tests of encoding `count` samples: 1, 2, 4, 3, 5. A call that lends no state gives the order for its length.
+pub fn encoding_answer(
+    width: Width,
+    order: Order,
+    shift: Shift,
+    bias: i64,
+    weights: &[i32],
+    state: SampleCount,
+    count: SampleCount,
+) -> Answer
+    ensures { λ r. ⌜ r ≡ encodingRefusal (bitsOf width) (config order shift bias (now (weights .entry))) (state .0) (count .0) ⌝ }
+{
+    let answer = coding_answer(width, order, shift, bias, weights, state);
+    if !kinds::is_done(answer) {
+        return answer;
+    }
+    if count.0 < order.0 {
+        return Answer::TooFewSamples;
     }
     Answer::Done
 }

@@ -1,6 +1,7 @@
 -- The refusal table of document 01: each answer's number, and the two ways in which answers are put together.
-use mathlib.Core.Bool.{Bool, true, false}
+use mathlib.Core.Bool.{Bool, true, false, cond}
 use Prim.Native.Nat.{ℕ}
+use lib.Dec.{eqb}
 use Rattle.kinds.specs.declared.Answer.{Answer}
 use Rattle.kinds.specs.declared.Answer.the-variants.{Done, BadOrder, BadShift, Overflows, BadLength, TooFewSamples, NoConfiguration, BytesEnd, UnknownVariant, BadRecord, UnfitField, NoRoom}
 
@@ -23,17 +24,10 @@ abbrev pub refuse : Bool → Answer → Answer → Answer
 refuse true a later = a
 refuse false a later = later
 
+-- 0 is done
+abbrev pub isDone : Answer → Bool
+isDone a = eqb (numberOf a) 0
+
 -- what a call leaves: the first where it is done, the second beside a refusal
 abbrev pub whenDone {ℓ} : {A : Type ℓ} → Answer → A → A → A
-whenDone Done done refused = done
-whenDone BadOrder done refused = refused
-whenDone BadShift done refused = refused
-whenDone Overflows done refused = refused
-whenDone BadLength done refused = refused
-whenDone TooFewSamples done refused = refused
-whenDone NoConfiguration done refused = refused
-whenDone BytesEnd done refused = refused
-whenDone UnknownVariant done refused = refused
-whenDone BadRecord done refused = refused
-whenDone UnfitField done refused = refused
-whenDone NoRoom done refused = refused
+whenDone a done refused = cond (isDone a) done refused

@@ -1,6 +1,6 @@
 // The kinds of number that must never stand for one another, and the answers of every call.
 ghost use mathlib.Core.Path.{_≡_};
-ghost use Rattle.kinds.specs.Answers.{numberOf};
+ghost use Rattle.kinds.specs.Answers.{numberOf, isDone};
 
 // The width of a sample, in bits.
 pub enum Width {
@@ -68,4 +68,11 @@ pub fn number(answer: Answer) -> u32
         Answer::UnfitField => 10,
         Answer::NoRoom => 11,
     }
+}
+
+// Whether a call did its work.
+pub fn is_done(answer: Answer) -> bool
+    ensures { λ r. ⌜ r ≡ isDone answer ⌝ }
+{
+    number(answer) == 0
 }

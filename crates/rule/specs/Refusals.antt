@@ -35,19 +35,19 @@ orderFits k = leb 1 k && leb k 32
 abbrev pub shiftFits : ℕ → ℕ → Bool
 shiftFits W q = ltb q (accumulator W)
 
--- tests 1, 2, 4, 3; a call with no state to test gives the order for the state's length
+-- tests 1, 2, 4, 3, where a state of `state` samples is given
 unfoldable pub codingRefusal : ℕ → Config → ℕ → Answer
-codingRefusal W c count =
+codingRefusal W c state =
     refuse (not (orderFits (c .order))) BadOrder
     (refuse (not (shiftFits W (c .shift))) BadShift
-    (refuse (not (eqb (length (c .weights)) (c .order) && eqb count (c .order))) BadLength
+    (refuse (not (eqb (length (c .weights)) (c .order) && eqb state (c .order))) BadLength
     (refuse (not (admitted W (c .bias) (c .weights))) Overflows Done)))
 
--- encoding has no state to be given, and then makes test 5
-unfoldable pub encodingRefusal : ℕ → Config → ℕ → Answer
-encodingRefusal W c n =
-    whenDone (codingRefusal W c (c .order)) (refuse (ltb n (c .order)) TooFewSamples Done) (codingRefusal W c (c .order))
+-- encoding n samples: then test 5. A call that lends no state counts as one that lends k places for it
+unfoldable pub encodingRefusal : ℕ → Config → ℕ → ℕ → Answer
+encodingRefusal W c state n =
+    whenDone (codingRefusal W c state) (refuse (ltb n (c .order)) TooFewSamples Done) (codingRefusal W c state)
 
 -- the fast way takes order 6 alone
 unfoldable pub orderSixRefusal : ℕ → Config → ℕ → Answer
-orderSixRefusal W c count = refuse (not (eqb (c .order) 6)) BadOrder (codingRefusal W c count)
+orderSixRefusal W c state = refuse (not (eqb (c .order) 6)) BadOrder (codingRefusal W c state)

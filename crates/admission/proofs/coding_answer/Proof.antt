@@ -56,7 +56,7 @@ returns-4 c =
       sym (c .before .is-length2 .ensures) ∙ not-true _ (c .if4 .taken),
     )
 
-state-fits : (c : tie.Else4) → let a = c .before .before .before .before .before .before .before .before .args in eqb (a .count .0) (a .order .0) ≡ true
+state-fits : (c : tie.Else4) → let a = c .before .before .before .before .before .before .before .before .args in eqb (a .state .0) (a .order .0) ≡ true
 state-fits c = sym (c .before .is-length2 .ensures) ∙ not-false _ (c .if4 .left)
 
 is-admitted-requires : tie.Need-is-admitted-requires
