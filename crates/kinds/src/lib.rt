@@ -1,6 +1,6 @@
 // The kinds of number that must never stand for one another, and the answers of every call.
 ghost use mathlib.Core.Path.{_≡_};
-ghost use Rattle.kinds.specs.Answers.{numberOf, isDone};
+ghost use Rattle.kinds.specs.Answers.{numberOf, isDone, whenDone};
 
 // The width of a sample, in bits.
 pub enum Width {
@@ -75,4 +75,11 @@ pub fn is_done(answer: Answer) -> bool
     ensures { λ r. ⌜ r ≡ isDone answer ⌝ }
 {
     number(answer) == 0
+}
+
+// The first number where a call did its work, the second beside a refusal.
+pub fn when_done(answer: Answer, done: usize, refused: usize) -> usize
+    ensures { λ r. ⌜ r ≡ whenDone answer done refused ⌝ }
+{
+    if is_done(answer) { done } else { refused }
 }

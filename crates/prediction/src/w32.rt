@@ -99,9 +99,9 @@ pub fn predict_one(latents: &[u32], weights: &[Conv], bias: Conv, shift: Shift) 
     settle(s, shift)
 }
 
-// Fills `preds`: each place from its own window of `latents`, the first from the first samples.
+// Fills `preds`: each place from its own window of `latents`, the first from the first samples. There is a sample after each window.
 pub fn predict_into(latents: &[u32], weights: &[Conv], bias: Conv, shift: Shift, preds: &mut [u32])
-    requires { ⌜ (length (now preds) + length (now weights) ≤ length (now latents)) × Ready 32 (shift .0) bias (now weights) ⌝ }
+    requires { ⌜ (length (now preds) ≤ length (now latents) - length (now weights)) × Ready 32 (shift .0) bias (now weights) ⌝ }
     ensures { λ _. ⌜ now (preds .exit) ≡ tabulate (length (now (preds .entry))) (λ (i : ℕ). prediction 32 (shift .0) bias (now (weights .entry)) (window (length (now (weights .entry))) (i + length (now (weights .entry))) (now (latents .entry)))) ⌝ }
 {
     let order = weights.len();

@@ -6,9 +6,9 @@ use Prim.Native.Nat.{ℕ, zero, suc, _+_, _-_, _<_, _≤_}
 use native.Mathlib.Numerals.{add-one}
 use native.Mathlib.Omega.{arith}
 use mathlib.Core.Logic.{⊎-elim}
-use native.Mathlib.Nat.{not-suc-le-zero, eq-or-lt-of-le, le-of-suc-le-suc, sub-zero, zero-sub, suc-sub-suc}
+use native.Mathlib.Nat.{not-suc-le-zero, eq-or-lt-of-le, le-of-suc-le-suc, zero-add, sub-zero, zero-sub, suc-sub-suc}
 use lib.ListN.{length, getD, take, drop, set, replicate, length-append, length-drop, List·getD-append}
-use lib.Seq.{drop-cons, set-at, take-suc, length-take-le, drop-length, getD-at}
+use lib.Seq.{drop-cons, set-at, length-take-le, drop-length, getD-at, getD-append-add, getD-drop, getD-take, ext-getD}
 use Rattle.rule.specs.Coding.{tabulate}
 
 module _ {A : Type 0} where
@@ -36,11 +36,6 @@ module _ {A : Type 0} where
   tabulate-next : (f : ℕ → A) (z : List A) (i : ℕ) (v d : A) → i < length z → v ≡ f i → set (tabulate i f ++ drop i z) i v ≡ tabulate (i + 1) f ++ drop (i + 1) z
   tabulate-next f z i v d h e = set-next (tabulate i f) z i v d (length-tabulate i f) h ∙ rw (e, add-one)
 
-  pub copy-next : (s z : List A) (i : ℕ) (d : A) → i < length s → i < length z → set (take i s ++ drop i z) i (getD s i d) ≡ take (i + 1) s ++ drop (i + 1) z
-  copy-next s z i d hs hz =
-      let h : i ≤ length s = omega arith in
-      set-next (take i s) z i (getD s i d) d (length-take-le i s h) hz ∙ rw (add-one, take-suc s i d)
-
   pub drop-replicate : (n i : ℕ) (a : A) → drop i (replicate n a) ≡ replicate (n - i) a
   drop-replicate n zero a = rw sub-zero
   drop-replicate zero (suc i) a = rw zero-sub
@@ -66,3 +61,36 @@ module _ {A : Type 0} {f : ℕ → A} {z : List A} where
   fill-end {l} {i} k h =
       let e : i ≡ length z = omega (arith, k .at) in
       k .is ∙ rw (e, drop-length, append-nil)
+
+  -- a place that is not filled yet
+  pub fill-rest : {l : List A} {i : ℕ} (j : ℕ) (d : A) → Filled f z l i → i ≤ j → getD l j d ≡ getD z j d
+  fill-rest {l} {i} j d k h =
+      let at : j ≡ length (tabulate i f) + (j - i) = omega (arith, length-tabulate i f) in
+      let from : i + (j - i) ≡ j = omega arith in
+      ap (λ (m : List A). getD m j d) (k .is)
+      ∙ ap (λ (n : ℕ). getD (tabulate i f ++ drop i z) n d) at
+      ∙ getD-append-add (tabulate i f) (drop i z) (j - i) d
+      ∙ getD-drop i z (j - i) d
+      ∙ ap (λ (n : ℕ). getD z n d) from
+
+-- ---- a table of another list's elements is a part of that list
+module _ {A : Type 0} (z : List A) (d : A) where
+  pub tabulate-part : (n a : ℕ) → a + n ≤ length z → tabulate n (λ i. getD z (a + i) d) ≡ take n (drop a z)
+  tabulate-part n a h =
+      ext-getD d (tabulate n (λ i. getD z (a + i) d)) (take n (drop a z))
+      (length-tabulate n (λ i. getD z (a + i) d) ∙ sym (length-take-le n (drop a z) (omega (arith, length-drop a z))))
+      (λ i k.
+      let inside : i < n = omega (arith, length-tabulate n (λ i. getD z (a + i) d)) in
+      getD-tabulate n (λ i. getD z (a + i) d) i d inside ∙ sym (getD-take n (drop a z) i d inside ∙ getD-drop a z i d))
+
+  tabulate-take : (n : ℕ) → n ≤ length z → tabulate n (λ i. getD z i d) ≡ take n z
+  tabulate-take n h = tabulate-same n (λ i. getD z i d) (λ i. getD z (0 + i) d) (λ i k. rw zero-add) ∙ tabulate-part n 0 (omega arith)
+
+  -- the first places filled with the first elements of z
+  pub fill-copied : {y l : List A} {n : ℕ} → n ≤ length z → Filled (λ i. getD z i d) y l n → l ≡ take n z ++ drop n y
+  fill-copied {y} {l} {n} h k = k .is ∙ ap (λ (t : List A). t ++ drop n y) (tabulate-take n h)
+
+pub getD-zeros : (n i : ℕ) → _≡_ {A = ℕ} (getD (replicate n 0) i 0) 0
+getD-zeros zero i = refl
+getD-zeros (suc n) zero = refl
+getD-zeros (suc n) (suc i) = getD-zeros n i

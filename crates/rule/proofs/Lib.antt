@@ -1,5 +1,7 @@
 pub mod Sizes
+pub mod Passing
 pub mod Sums
 pub mod Wrapping
 pub mod Filling
 pub mod Windows
+pub mod Parts

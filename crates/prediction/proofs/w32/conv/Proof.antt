@@ -1,12 +1,12 @@
 -- The weights so far stand in front of the zeros; each fits the accumulator, since the configuration is admitted. Assumes nothing.
 use mathlib.Core.Path.{_≡_, refl, ap, _∙_}
-use mathlib.Core.List.{List, _++_}
+use mathlib.Core.List.{List}
 use Prim.Native.Nat.{ℕ, _≤_, _-_, _+_}
 use native.Mathlib.Omega.{arith}
 use borrow.Author.Needs.{needs}
 use lib.Dec.{lit<}
 use lib.IntN.{ℤ, pos}
-use lib.ListN.{length, getD, take, drop, set, replicate}
+use lib.ListN.{length, getD, replicate}
 use lib.Seq.{take-length}
 use mir.Facts.{toZ-ofZ}
 use mir.Syntax.{w32, w64 as acc}
@@ -17,13 +17,13 @@ use Rattle.prediction.proofs.w32.conv.Statement.{statement}
 use Rattle.prediction.proofs.w32.conv.Tie as tie
 
 abbrev Inv-loop : tie.InvT-loop
-Inv-loop bias weights wide₀ i₀ wide i = (i ≤ length weights) × (wide ≡ take i weights ++ drop i (replicate 32 (pos 0)))
+Inv-loop bias weights wide₀ i₀ wide i = (i ≤ length weights) × filling.Filled (λ (j : ℕ). getD weights j (pos 0)) (replicate 32 (pos 0)) wide i
 
 abbrev μ-loop : tie.MeasureT-loop
 μ-loop bias weights wide₀ i₀ wide i = length weights - i
 
 loop-holds : tie.Need-loop-holds Inv-loop μ-loop
-loop-holds c = (omega arith, refl)
+loop-holds c = (omega arith, filling.fill-begin)
 
 mul-weight-to-conv : tie.Need-mul-weight-to-conv Inv-loop μ-loop
 mul-weight-to-conv c = omega arith
@@ -64,7 +64,7 @@ loop-again c =
     let v = c .before in
     let e = c .weight-to-conv .ensures ∙ weight-is v in (
       omega arith,
-      rw (c .before .before .before .loop .inv .1, e, toZ-ofZ (weight-fits v)) (filling.copy-next (weights v) (replicate 32 (pos 0)) (i v) (pos 0) (omega arith) (omega arith)),
+      filling.fill-turn (pos 0) (omega arith) (ap (λ (z : ℤ). toZ acc (ofZ acc z)) e ∙ toZ-ofZ (weight-fits v)) (c .before .before .before .loop .inv .1),
     )
 
 bias-fits : (c : tie.Start Inv-loop μ-loop) → SFits acc (c .args .bias)
@@ -79,7 +79,7 @@ returns c =
     let l = c .before .before .loop in
     let e : l .i ≡ length (a .args .weights .now) = omega arith in
     let b = c .bias-to-conv .ensures ∙ toZ-ofZ (a .fits .bias) in
-    (ap (λ (z : ℤ). toZ acc (ofZ acc z)) b ∙ toZ-ofZ (bias-fits a), l .inv .1 ∙ rw (e, take-length, filling.drop-replicate))
+    (ap (λ (z : ℤ). toZ acc (ofZ acc z)) b ∙ toZ-ofZ (bias-fits a), filling.fill-copied (a .args .weights .now) (pos 0) (l .inv .0) (l .inv .1) ∙ rw (e, take-length, filling.drop-replicate))
 
 pub conv-spec : {M : Type 1} → statement M
 conv-spec =
