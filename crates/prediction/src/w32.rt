@@ -3,7 +3,7 @@ use kinds::Shift;
 ghost use mathlib.Core.Path.{_≡_};
 ghost use mathlib.Core.Bool.{true};
 ghost use mathlib.Core.List.{_++_};
-ghost use Prim.Native.Nat.{ℕ, _+_, _-_, _/_, _^_, _≤_, _<_};
+ghost use Prim.Native.Nat.{ℕ, _+_, _-_, _/_, _%_, _^_, _≤_, _<_};
 ghost use lib.IntN.{pos, _*ℤ_};
 ghost use lib.ListN.{length, replicate};
 ghost use mir.Syntax.{w64 as acc};
@@ -73,7 +73,14 @@ fn shifted_down(s: Bits, shift: Shift) -> Bits
     s >> shift.0
 }
 
-// What becomes of a sum. The accumulator is wide enough for it, so only here do numbers wrap.
+// Only here do numbers wrap: a prediction past the greatest sample begins again at 0.
+fn reduced(s: Bits) -> u32
+    ensures { λ r. ⌜ r ≡ s % 2 ^ 32 ⌝ }
+{
+    (s % 4294967296) as u32
+}
+
+// What becomes of a sum: nothing of it where it is negative.
 pub fn settle(s: Conv, shift: Shift) -> Prediction
     requires { ⌜ shift .0 < accumulator 32 ⌝ }
     ensures { λ r. ⌜ r .value ≡ rule.settle 32 (shift .0) s ⌝ }
@@ -81,8 +88,9 @@ pub fn settle(s: Conv, shift: Shift) -> Prediction
     if s < 0 {
         return Prediction { value: 0 };
     }
-    let value = (shifted_down(s as Bits, shift) % 4294967296) as u32;
-    Prediction { value: value }
+    Prediction {
+        value: reduced(shifted_down(s as Bits, shift)),
+    }
 }
 
 // The prediction from a window that has a sample for each weight, the oldest first.

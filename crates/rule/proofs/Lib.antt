@@ -1,4 +1,5 @@
 pub mod Sizes
+pub mod AnyOrder
 pub mod Passing
 pub mod Sums
 pub mod Wrapping

@@ -41,7 +41,7 @@ sum-abs-le m s (w ∷ ws) (x ∷ xs) h =
       mul-add m (natAbs w) (sumAbs ws),
     )
 
-first-abs-le : (i : ℕ) (ws : List ℤ) → sumAbs (take i ws) ≤ sumAbs ws
+pub first-abs-le : (i : ℕ) (ws : List ℤ) → sumAbs (take i ws) ≤ sumAbs ws
 first-abs-le zero ws = omega arith
 first-abs-le (suc i) [] = omega arith
 first-abs-le (suc i) (w ∷ ws) = omega (arith, first-abs-le i ws)
@@ -51,10 +51,10 @@ one-abs-le i [] = omega arith
 one-abs-le zero (w ∷ ws) = omega arith
 one-abs-le (suc i) (w ∷ ws) = omega (arith, one-abs-le i ws)
 
-small : (W : ℕ) (z : ℤ) → natAbs z ≤ limit W → Inside W z
+pub small : (W : ℕ) (z : ℤ) → natAbs z ≤ limit W → Inside W z
 small W z h = record { inside = omega (arith, sizes.mag-le-abs z, pow-pos (accumulator W - 1)) }
 
-sample-le : (W x : ℕ) → x < 2 ^ W → x ≤ greatest W
+pub sample-le : (W x : ℕ) → x < 2 ^ W → x ≤ greatest W
 sample-le W x h = omega arith
 
 times-one : (z : ℤ) → z *ℤ pos 1 ≡ z
@@ -62,7 +62,7 @@ unfolding one
 times-one z = *ℤ-one z
 
 module _ (W : ℕ) (bias : ℤ) (ws : List ℤ) (ok : admitted W bias ws ≡ true) where
-  within : natAbs bias + greatest W * sumAbs ws ≤ limit W
+  pub within : natAbs bias + greatest W * sumAbs ws ≤ limit W
   unfolding admitted
   within = leb-true (natAbs bias + greatest W * sumAbs ws) (limit W) ok
 

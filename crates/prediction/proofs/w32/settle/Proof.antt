@@ -25,14 +25,14 @@ cast-shifted-down c = (
 shifted-down-requires : tie.Need-shifted-down-requires
 shifted-down-requires c κs = search needs
 
-cast-value : tie.Need-cast-value
-cast-value c = search needs
+reduced-requires : tie.Need-reduced-requires
+reduced-requires c κs = search needs
 
 returns-2 : tie.Need-returns-2
 returns-2 c =
-    let a = c .before .before in
-    let e = rw (sum-is a) at (c .shifted-down .ensures) in
-    ap (λ (n : ℕ). n % 2 ^ 32) e ∙ summing.settle-shifted 32 (a .args .shift .0) (a .args .s) (rw (sum-is a) at (c .before .if1 .left))
+    let a = c .before .before .before in
+    let e = rw (sum-is a) at (c .before .shifted-down .ensures) in
+    c .reduced .ensures ∙ ap (λ (n : ℕ). n % 2 ^ 32) e ∙ summing.settle-shifted 32 (a .args .shift .0) (a .args .s) (rw (sum-is a) at (c .before .before .if1 .left))
 
 pub settle-spec : {M : Type 1} → statement M
-settle-spec = tie.close (tie.spec returns cast-shifted-down shifted-down-requires cast-value returns-2)
+settle-spec = tie.close (tie.spec returns cast-shifted-down shifted-down-requires reduced-requires returns-2)
