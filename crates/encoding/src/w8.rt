@@ -24,12 +24,6 @@ pub struct Encoded {
     pub state: State8,
 }
 
-fn least(a: usize, b: usize) -> usize
-    ensures { λ r. ⌜ r ≡ min a b ⌝ }
-{
-    if a < b { a } else { b }
-}
-
 // How many predictions a batch makes, with `left` samples to code: one for each sample past the first `order`, up to a batch.
 fn predicted_ahead(left: usize, order: usize) -> usize
     ensures { λ r. ⌜ r ≡ min (left - order) 512 ⌝ }
@@ -37,7 +31,7 @@ fn predicted_ahead(left: usize, order: usize) -> usize
     if left < order {
         return 0;
     }
-    least(left - order, BATCH)
+    slices::least(left - order, BATCH)
 }
 
 // Each sample becomes its residual.
@@ -65,18 +59,6 @@ fn hold_over(predictions: &mut [u8], order: usize)
     }
 }
 
-// The first samples, as many as `state` has places.
-fn save(latents: &[u8], state: &mut [u8])
-    requires { ⌜ length (now state) ≤ length (now latents) ⌝ }
-    ensures { λ _. ⌜ now (state .exit) ≡ take (length (now (state .entry))) (now (latents .entry)) ⌝ }
-{
-    let mut i = 0;
-    while i < state.len() {
-        state[i] = latents[i];
-        i += 1;
-    }
-}
-
 // Batch by batch. A batch's predictions are made before its samples become residuals, and those for the first `order` places of
 // the batch after are held over, since their windows reach back into this one. Before the first samples nothing is predicted: the
 // zeros that the array is made of stand for that.
@@ -90,7 +72,7 @@ fn encode_batches(weights: &[Conv], bias: Conv, shift: Shift, latents: &mut [u8]
     let mut start = 0;
     while start < n {
         let left = n - start;
-        let end = start + least(left, BATCH);
+        let end = start + slices::least(left, BATCH);
         let ahead = order + predicted_ahead(left, order);
         prediction::w8::predict_into(
             &latents[start..],
@@ -131,12 +113,11 @@ pub fn encode_into(
     if !kinds::is_done(answer) {
         return answer;
     }
-    save(latents, state);
-    let wide = prediction::w8::conv(bias, weights);
-    let b = wide.bias;
-    let w = wide.weights;
     let k = order.0;
-    encode_batches(&w[..k], b, shift, latents);
+    slices::w8::copy(&latents[..k], state);
+    let config = prediction::w8::conv(bias, weights);
+    let wide = config.weights;
+    encode_batches(&wide[..k], config.bias, shift, latents);
     answer
 }
 

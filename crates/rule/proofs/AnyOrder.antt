@@ -45,9 +45,11 @@ module _ (W : ℕ) (bias : ℤ) (ws : List ℤ) (xs : List ℕ) (ok : admitted W
   pub any-order : {ts : List ℤ} → Reordered (terms ws xs) ts → (j : ℕ) → Inside W (added bias (take j ts))
   any-order {ts} r j =
       sums.small W (added bias (take j ts))
-      (omega (arith,
-      added-abs-le bias (take j ts),
-      sums.first-abs-le j ts,
-      reordered-abs r,
-      terms-abs-le (greatest W) ws xs (λ i. sums.sample-le W (getD xs i 0) (samples .below i)),
-      sums.within W bias ws ok))
+      (omega (
+        arith,
+        added-abs-le bias (take j ts),
+        sums.first-abs-le j ts,
+        reordered-abs r,
+        terms-abs-le (greatest W) ws xs (λ i. sums.sample-le W (getD xs i 0) (samples .below i)),
+        sums.within W bias ws ok,
+      ))

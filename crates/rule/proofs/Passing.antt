@@ -12,7 +12,7 @@ use Rattle.kinds.specs.declared.Answer.the-variants.{Done, BadOrder, BadShift, 
 use Rattle.kinds.specs.Answers.{refuse, isDone, whenDone}
 use Rattle.rule.specs.Numbers.{accumulator}
 use Rattle.rule.specs.Prediction.{admitted, Ready}
-use Rattle.rule.specs.Refusals.{Config, orderFits, shiftFits, codingRefusal, encodingRefusal}
+use Rattle.rule.specs.Refusals.{Config, orderFits, shiftFits, codingRefusal, encodingRefusal, orderSixRefusal}
 
 -- tests 1, 2, 4 and 3 have passed, with a state of `state` samples
 pub record Passed (W : ℕ) (c : Config) (state : ℕ) : Type 0 where
@@ -64,6 +64,16 @@ module _ (W : ℕ) (c : Config) (state : ℕ) where
   encoding-passed n h =
       let t = then-done (codingRefusal W c state) (ltb n (c .order)) h in
       (coding-passed (t .0), ltb-false n (c .order) (t .1))
+
+  six-done : (t : Bool) → isDone (refuse (not t) BadOrder (codingRefusal W c state)) ≡ true → (t ≡ true) × Passed W c state
+  six-done true h = (refl, coding-passed h)
+  six-done false h = absurd (false≢true h)
+
+  pub order-six-passed : isDone (orderSixRefusal W c state) ≡ true → (c .order ≡ 6) × Passed W c state
+  unfolding orderSixRefusal
+  order-six-passed h =
+      let t = six-done (eqb (c .order) 6) h in
+      (eqb-true (c .order) 6 (t .0), t .1)
 
   pub encoding-order : (n : ℕ) → orderFits (c .order) ≡ false → encodingRefusal W c state n ≡ BadOrder
   unfolding encodingRefusal codingRefusal

@@ -1,24 +1,21 @@
 -- A refusal leaves everything; otherwise the tests have passed, and the batches code the slice. Assumes nothing.
 use mathlib.Core.Path.{_≡_, refl, sym, ap, _∙_}
 use mathlib.Core.Bool.{true, false}
-use mathlib.Core.List.{List, _++_}
-use Prim.Native.Nat.{ℕ, _≤_, _-_}
+use Prim.Native.Nat.{_≤_}
 use native.Mathlib.Omega.{arith}
 use borrow.Author.Needs.{needs}
 use borrow.Author.Tests.{not-true, not-false}
-use lib.IntN.{ℤ, pos}
-use lib.ListN.{length, take, replicate, length-append}
-use lib.Seq.{take-at}
+use lib.IntN.{ℤ}
+use lib.ListN.{length, take}
+use lib.Seq.{length-take-le}
 use mir.Facts.{toZ-ofZ}
 use mir.Syntax.{w32 as acc}
 use mir.Val.{toZ, ofZ}
 use Rattle.kinds.specs.Answers.{isDone}
-use Rattle.rule.specs.Prediction.{prediction}
-use Rattle.rule.specs.Coding.{encodedBuffer}
 use Rattle.rule.specs.Refusals.{config, encodingRefusal}
 use Rattle.rule.proofs.Passing as passing
-use Rattle.rule.proofs.Sums as sums
 use Rattle.prediction.proofs.Converting as converting
+use Rattle.slices.proofs.Copying.{replaced}
 use Rattle.encoding.proofs.w16.encode_into.Statement.{statement}
 use Rattle.encoding.proofs.w16.encode_into.Tie as tie
 
@@ -50,8 +47,18 @@ module _ (c : tie.Else1) where
   passed : passing.Passed 16 (config (a e .args .order) (a e .args .shift) (a e .args .bias) (a e .args .weights .now)) (length (a e .args .state .now)) × (a e .args .order .0 ≤ length (a e .args .latents .now))
   passed = passing.encoding-passed 16 _ _ _ (ap isDone (sym (said e)) ∙ done)
 
-save-requires : tie.Need-save-requires
-save-requires c κs = rw (passed (c .before .before) .0 .held) (passed (c .before .before) .1)
+first-long : (c : tie.Else1) → let s = a (c .before .before) in length (take (s .args .order .0) (s .args .latents .now)) ≡ s .args .order .0
+first-long c = length-take-le _ _ (passed c .1)
+
+-- the first k samples are lent, and the state has a place for each
+slice-reshare-prefix-copy : tie.Need-slice-reshare-prefix-copy
+slice-reshare-prefix-copy c = passed c .1
+
+slice-aggregate-copy : tie.Need-slice-aggregate-copy
+slice-aggregate-copy c = sym (first-long (c .before))
+
+copy-requires : tie.Need-copy-requires
+copy-requires c κs = omega (arith, first-long (c .before .before), passed (c .before .before) .0 .held)
 
 conv-requires : tie.Need-conv-requires
 conv-requires c κs =
@@ -68,21 +75,20 @@ module _ (c : tie.After-conv) where
   s = a (e b)
 
   weights-are : take (s .args .order .0) (c .conv .result .weights) ≡ s .args .weights .now
-  weights-are = converting.first-weights (s .args .weights .now) (c .conv .result .weights) (s .args .order .0) (passed b .0 .weights) (c .conv .ensures .1)
+  weights-are = converting.weights-are 16 _ _ (passed b .0) (c .conv .result .weights) (c .conv .ensures .1)
 
   weights-long : length (c .conv .result .weights) ≡ 32
-  weights-long = converting.whole-array (s .args .weights .now) (c .conv .result .weights) (s .args .order .0) (passed b .0 .weights) (c .conv .ensures .1) (passed b .0 .few)
+  weights-long = converting.wide-long 16 _ _ (passed b .0) (c .conv .result .weights) (c .conv .ensures .1)
 
   bias-is : toZ acc (ofZ acc (c .conv .result .bias)) ≡ s .args .bias
   bias-is =
-      ap (λ (z : ℤ). toZ acc (ofZ acc z)) (c .conv .ensures .0 ∙ toZ-ofZ (s .fits .bias))
-      ∙ toZ-ofZ (sums.fits {W = 16} refl (sums.bias-inside 16 (s .args .bias) (s .args .weights .now) (passed b .0 .ready .admits)))
+      ap (λ (z : ℤ). toZ acc (ofZ acc z)) (c .conv .ensures .0 ∙ toZ-ofZ (s .fits .bias)) ∙ converting.bias-back 16 _ _ (passed b .0) acc refl
 
-array-share-prefix-w : tie.Need-array-share-prefix-w
-array-share-prefix-w c = rw (weights-long (c .before .before)) (passed (b (c .before .before)) .0 .few)
+array-share-prefix-wide : tie.Need-array-share-prefix-wide
+array-share-prefix-wide c = rw (weights-long (c .before)) (passed (b (c .before)) .0 .few)
 
 slice-aggregate-encode-batches : tie.Need-slice-aggregate-encode-batches
-slice-aggregate-encode-batches c = rw (weights-are (c .before .before .before)) (sym (passed (b (c .before .before .before)) .0 .weights))
+slice-aggregate-encode-batches c = rw (weights-are (c .before .before)) (sym (passed (b (c .before .before)) .0 .weights))
 
 encode-batches-requires : tie.Need-encode-batches-requires
 encode-batches-requires c κs =
@@ -102,7 +108,10 @@ returns-2 c =
     let t = passed (b v) .0 in
     rw (done (b v)) (
       said (e (b v)),
-      (rw (weights-are v, bias-is v, t .weights) at (c .before .before .encode-batches .ensures), rw (t .held) at (v .before .before .before .save .ensures)),
+      (
+        rw (weights-are v, bias-is v, t .weights) at (c .before .before .encode-batches .ensures),
+        v .before .before .before .copy .ensures ∙ replaced _ (s v .args .state .now) (omega (arith, first-long (b v), t .held)),
+      ),
     )
 
 pub encode-into-spec : {M : Type 1} → statement M
@@ -112,9 +121,11 @@ encode-into-spec =
     encoding-answer-requires
     is-done-requires
     returns
-    save-requires
+    slice-reshare-prefix-copy
+    slice-aggregate-copy
+    copy-requires
     conv-requires
-    array-share-prefix-w
+    array-share-prefix-wide
     slice-aggregate-encode-batches
     encode-batches-requires
     same-length

@@ -1,0 +1,3 @@
+pub mod Starting
+pub mod Residuals
+pub mod Batches

@@ -1,0 +1,4 @@
+pub mod Undone
+pub mod Pieces
+pub mod Whole
+pub mod Ways
