@@ -49,7 +49,7 @@ fn accumulator_limit(width: Width) -> u64
 }
 
 // The absolute value, of the least number too: the flip of a negative b is -b - 1.
-fn magnitude(b: i64) -> u64
+pub fn magnitude(b: i64) -> u64
     ensures { λ r. ⌜ r ≡ natAbs b ⌝ }
 {
     if b < 0 { ((!b) as u64) + 1 } else { b as u64 }

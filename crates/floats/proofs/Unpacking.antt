@@ -1,0 +1,106 @@
+-- A finite float's bit pattern read by fields gives its sign, digits and shift.
+use mathlib.Core.Path.{_≡_, refl, sym, ap, _∙_, subst}
+use mathlib.Core.Bool.{Bool, true, false, not, cond}
+use Prim.Native.Nat.{ℕ, zero, suc, _+_, _-_, _*_, _/_, _%_, _^_, _≤_, _<_}
+use native.Mathlib.Nat.{mod-lt, lt-irrefl}
+use native.Mathlib.Omega.{arith}
+use lib.Dec.{T, leb, eqb, eqb→eq}
+use lib.Pow.{pow-pos}
+use lib.Ieee.{Float, nan, inf, fin, binary64, ofBits, ofFields, toBits, odd, isNan, fits}
+use lib.Ieee.Fits.{eq→eqb}
+use lib.Ieee.Bits.{ofBits-toBits}
+use lib.Ieee.Exact.{HasValue, odd-sign}
+use lib.Ieee.Scale.{finite}
+use Rattle.floats.specs.Values.{Unpacked}
+
+pub finite-no-nan : (x : Float) → T (finite x) → T (not (isNan x))
+unfolding isNan
+finite-no-nan nan p = absurd p
+finite-no-nan (inf s) p = absurd p
+finite-no-nan (fin s m e) p = tt
+
+fields : (b : ℕ) → ofBits binary64 b ≡ ofFields binary64 (leb (2 ^ 63) b) (b % 2 ^ 63 / 2 ^ 52) (b % 2 ^ 52)
+unfolding ofBits
+fields b = refl
+
+low-lt : (b : ℕ) → b % 4503599627370496 < 4503599627370496
+low-lt b = mod-lt b (pow-pos 52)
+
+field-lt : (b : ℕ) → b % 9223372036854775808 / 4503599627370496 < 2048
+field-lt b = omega arith
+
+unpacked-first : (s : Bool) (low : ℕ) → low < 2 ^ 52 → Unpacked (ofFields binary64 s 0 low) s low 0
+unfolding ofFields
+unpacked-first s low h =
+    record { value = odd-sign 53 s low 0 1074; held = record { few = omega arith; full = λ (k : 0 < 0). absurd (lt-irrefl 0 k) }; bound = omega arith }
+
+-- the last field is an infinity's or a NaN's
+not-last : (last zero? s : Bool) (v : Float) → T (finite (cond last (cond zero? (inf s) nan) v)) → (cond last (cond zero? (inf s) nan) v ≡ v) × T (not last)
+not-last true true s v p = absurd p
+not-last true false s v p = absurd p
+not-last false b s v p = (refl, tt)
+
+unpacked-later : (s : Bool) (j low : ℕ) → suc j < 2048 → low < 2 ^ 52 → T (finite (ofFields binary64 s (suc j) low)) → Unpacked (ofFields binary64 s (suc j) low) s (2 ^ 52 + low) j
+unfolding ofFields
+unpacked-later s j low b h p =
+    let v = odd 53 s (2 ^ 52 + low) j 1074 in
+    let is = not-last (eqb (suc j) 2047) (eqb low 0) s v p in
+    record {
+      value = subst (λ (k : Float). HasValue k s ((2 ^ 52 + low) * 2 ^ j) (2 ^ 1074)) (sym (is .0)) (odd-sign 53 s (2 ^ 52 + low) j 1074);
+      held = record { few = omega arith; full = λ (k : 0 < j). omega arith };
+      bound = under (eqb (suc j) 2047) (λ (e : suc j ≡ 2047). eq→eqb e) (is .1);
+    }
+  where
+    under : (last : Bool) → (suc j ≡ 2047 → T last) → T (not last) → j ≤ 2045
+    under true f n = absurd n
+    under false f n = out f
+      where
+        out : (suc j ≡ 2047 → ⊥) → j ≤ 2045
+        out f = omega arith
+
+module _ (x : Float) (F : T (fits binary64 x)) (p : T (finite x)) where
+  abbrev b : ℕ
+  b = toBits binary64 x
+
+  abbrev field : ℕ
+  field = b % 2 ^ 63 / 2 ^ 52
+
+  abbrev low : ℕ
+  low = b % 2 ^ 52
+
+  abbrev sign : Bool
+  sign = leb (2 ^ 63) b
+
+  back : ofFields binary64 sign field low ≡ x
+  back = sym (fields b) ∙ ofBits-toBits binary64 x F
+
+  pub unpacked-at-first : field ≡ 0 → Unpacked x sign low 0
+  unpacked-at-first e =
+      subst (λ (k : Float). Unpacked k sign low 0) (ap (λ (k : ℕ). ofFields binary64 sign k low) (sym e) ∙ back)
+      (unpacked-first sign low (low-lt b))
+
+  pub unpacked-at-later : (field ≡ 0 → ⊥) → Unpacked x sign (2 ^ 52 + low) (field - 1)
+  unpacked-at-later n = go field (field-lt b) back n
+    where
+      less : (j : ℕ) → j ≡ suc j - 1
+      less j = omega arith
+
+      go : (f : ℕ) → f < 2048 → ofFields binary64 sign f low ≡ x → (f ≡ 0 → ⊥) → Unpacked x sign (2 ^ 52 + low) (f - 1)
+      go zero l e n = absurd (n refl)
+      go (suc j) l e n =
+          subst (λ (k : ℕ). Unpacked x sign (2 ^ 52 + low) k) (less j)
+          (subst (λ (k : Float). Unpacked k sign (2 ^ 52 + low) j) e (unpacked-later sign j low l (low-lt b) (subst (λ (k : Float). T (finite k)) (sym e) p)))
+
+-- so each finite float that the format holds has such parts
+pub record Packed (x : Float) : Type 0 where
+  pub negative : Bool
+  pub digits : ℕ
+  pub shift : ℕ
+  pub parts : Unpacked x negative digits shift
+
+pub packed : (x : Float) → T (fits binary64 x) → T (finite x) → Packed x
+packed x F p = go (eqb (toBits binary64 x % 2 ^ 63 / 2 ^ 52) 0) (eqb→eq (toBits binary64 x % 2 ^ 63 / 2 ^ 52) 0) (λ (e : toBits binary64 x % 2 ^ 63 / 2 ^ 52 ≡ 0). eq→eqb e)
+  where
+    go : (b : Bool) → (T b → toBits binary64 x % 2 ^ 63 / 2 ^ 52 ≡ 0) → (toBits binary64 x % 2 ^ 63 / 2 ^ 52 ≡ 0 → T b) → Packed x
+    go true f g = record { negative = leb (2 ^ 63) (toBits binary64 x); digits = toBits binary64 x % 2 ^ 52; shift = 0; parts = unpacked-at-first x F p (f tt) }
+    go false f g = record { negative = leb (2 ^ 63) (toBits binary64 x); digits = 2 ^ 52 + toBits binary64 x % 2 ^ 52; shift = toBits binary64 x % 2 ^ 63 / 2 ^ 52 - 1; parts = unpacked-at-later x F p g }

@@ -1,0 +1,119 @@
+-- `quantising::quantise` meets its contract: the tests in their order, and the slice filled after the last of them.
+use mathlib.Core.Path.{_≡_, sym, ap, _∙_, subst}
+use mathlib.Core.Bool.{true, cond}
+use mathlib.Core.List.{List}
+use Prim.Native.Nat.{ℕ, _≤_}
+use borrow.Author.Needs.{needs}
+use lib.Dec.{eqb, eqb→eq}
+use lib.IntN.{ℤ}
+use lib.ListN.{length, take}
+use Rattle.floats.proofs.Compared.{yes, not-was-true, not-was-false}
+use Rattle.kinds.specs.Widths.{bitsOf}
+use Rattle.rule.proofs.Passing.{order-few}
+use Rattle.rule.specs.Refusals.{orderFits}
+use Rattle.quantising.specs.Steps.{Outcome, found}
+use Rattle.quantising.specs.Calls.{outcomeAt}
+use Rattle.quantising.proofs.Calling.{bad-order, bad-length, configured}
+use Rattle.quantising.proofs.quantise.Statement.{statement}
+use Rattle.quantising.proofs.quantise.Tie as tie
+
+-- ---- what is given
+module _ (c : tie.Start) where
+  abbrev W : ℕ
+  W = bitsOf (c .args .width)
+
+  abbrev k : ℕ
+  k = c .args .fitted .order .0
+
+  abbrev entry : List ℤ
+  entry = c .args .weights .now
+
+  abbrev o : Outcome
+  o = outcomeAt W (c .args .fitted) (c .args .centre)
+
+-- ---- past the tests
+module _ (c : tie.Else1) where
+  abbrev start : tie.Start
+  start = c .before .before .before
+
+  order-holds : orderFits (k start) ≡ true
+  order-holds = sym (c .before .is-order .ensures) ∙ not-was-false _ (c .if1 .left)
+
+  order-small : k start ≤ 32
+  order-small = order-few (k start) order-holds
+
+length-holds : (c : tie.Else2) → eqb (length (entry (start (c .before .before)))) (k (start (c .before .before))) ≡ true
+length-holds c = sym (c .before .is-length .ensures) ∙ not-was-false _ (c .if2 .left)
+
+lengths-agree : (c : tie.Else2) → length (entry (start (c .before .before))) ≡ k (start (c .before .before))
+lengths-agree c = eqb→eq _ _ (yes (length-holds c))
+
+is-order-requires : tie.Need-is-order-requires
+is-order-requires c κs = search needs
+
+refused-requires : tie.Need-refused-requires
+refused-requires c κs = search needs
+
+returns : tie.Need-returns
+returns c =
+    let t = c .before in
+    let s = t .before .before .before in
+    let l = bad-order (W s) (s .args .fitted) (s .args .centre) (entry s) (sym (t .before .is-order .ensures) ∙ not-was-true _ (t .if1 .taken)) in
+    (c .refused .ensures ∙ l .back, l .left)
+
+is-length-requires : tie.Need-is-length-requires
+is-length-requires c κs = search needs
+
+refused-requires-2 : tie.Need-refused-requires-2
+refused-requires-2 c κs = search needs
+
+returns-2 : tie.Need-returns-2
+returns-2 c =
+    let t = c .before in
+    let e = t .before .before in
+    let s = start e in
+    let l = bad-length (W s) (s .args .fitted) (s .args .centre) (entry s) (order-holds e) (sym (t .before .is-length .ensures) ∙ not-was-true _ (t .if2 .taken)) in
+    (c .refused2 .ensures ∙ l .back, l .left)
+
+configure-requires : tie.Need-configure-requires
+configure-requires c κs = order-small (c .before .before .before)
+
+fill-requires : tie.Need-fill-requires
+fill-requires c κs =
+    let m = c .before .before .before .before in
+    subst (λ (n : ℕ). n ≤ 32) (sym (lengths-agree m)) (order-small (m .before .before))
+
+hand-back-requires : tie.Need-hand-back-requires
+hand-back-requires c κs = search needs
+
+same-length : tie.Need-same-length
+same-length c = search needs
+
+returns-3 : tie.Need-returns-3
+returns-3 c =
+    let f = c .before .before in
+    let g = f .before .before .before in
+    let r = g .configure .result in
+    let m = g .before .before in
+    let e = m .before .before in
+    let s = start e in
+    let l = configured (W s) (s .args .fitted) (s .args .centre) (entry s) (order-holds e) (length-holds m) r (g .configure .ensures) in (
+      c .hand-back .ensures ∙ l .back,
+      f .fill .ensures ∙ ap (λ (n : ℕ). cond (r .found) (take n (r .weights)) (entry s)) (lengths-agree m) ∙ l .left,
+    )
+
+pub quantise-spec : {M : Type 1} → statement M
+quantise-spec =
+    tie.close
+    (tie.spec
+    is-order-requires
+    refused-requires
+    returns
+    is-length-requires
+    refused-requires-2
+    returns-2
+    configure-requires
+    fill-requires
+    hand-back-requires
+    same-length
+    returns-3)

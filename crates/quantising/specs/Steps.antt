@@ -1,0 +1,109 @@
+-- Document 01, "Quantising float weights": the six steps, in their order, over the width W. ⊕ ⊖ ⊗ ⊘ are single binary64 operations.
+use mathlib.Core.Bool.{Bool, true, false, _&&_}
+use mathlib.Core.List.{List, [], _∷_, map}
+use Prim.Native.Nat.{ℕ, zero, suc, _-_, _^_, min}
+use lib.IntN.{ℤ, pos, negsuc}
+use lib.Ieee.{Float, binary64, add, sub, mul, div, ofInt}
+use lib.Ieee.Scale.{finite}
+use Rattle.floats.specs.Values.{magnitude, exponentOf, roundedOf, cutOf, holds}
+use Rattle.rule.specs.Numbers.{greatest, accumulator, limit}
+use Rattle.rule.specs.Prediction.{admitted}
+use Rattle.quantising.specs.declared.Scale.{Scale}
+use Rattle.quantising.specs.declared.Scale.the-variants.{Nothing, By}
+
+infixl 6 _⊕_ _⊖_
+infixl 7 _⊗_ _⊘_
+abbrev pub _⊕_ : Float → Float → Float
+x ⊕ y = add binary64 x y
+
+abbrev pub _⊖_ : Float → Float → Float
+x ⊖ y = sub binary64 x y
+
+abbrev pub _⊗_ : Float → Float → Float
+x ⊗ y = mul binary64 x y
+
+abbrev pub _⊘_ : Float → Float → Float
+x ⊘ y = div binary64 x y
+
+-- n as f64
+abbrev pub float : ℕ → Float
+float n = ofInt binary64 (pos n)
+
+-- ---- 1. T is the weights' sum and S the sum of their absolute values, from 0.0 in index order
+abbrev pub sumFrom : Float → List Float → Float
+sumFrom t [] = t
+sumFrom t (w ∷ ws) = sumFrom (t ⊕ w) ws
+
+unfoldable pub total : List Float → Float
+total ws = sumFrom (float 0) ws
+
+unfoldable pub absTotal : List Float → Float
+absTotal ws = sumFrom (float 0) (map magnitude ws)
+
+-- ---- 2. (1.0 - T) times centre, plus c; and S times M, plus the absolute float bias, plus 1.0
+unfoldable pub floatBias : Float → ℕ → Float → Float
+floatBias T centre c = (float 1 ⊖ T) ⊗ float centre ⊕ c
+
+unfoldable pub divisor : ℕ → Float → Float → Float
+divisor W S bias = S ⊗ float (greatest W) ⊕ magnitude bias ⊕ float 1
+
+-- ---- 3. x is 2^(A-1)-1 as f64, which is 2^63 at A = 64, divided by that
+unfoldable pub quotient : ℕ → Float → Float
+quotient W d = float (limit W) ⊘ d
+
+-- ---- 4. q is the least of e-1, MAX_CONV1_DELTA_QUANTIZATION and A-1; a negative one is refused
+abbrev pub greatestShift : ℕ
+greatestShift = 31
+
+unfoldable pub scaleAt : ℕ → ℤ → Float → Scale
+scaleAt W (pos (suc less)) bias = By (min (min less greatestShift) (accumulator W - 1)) bias
+scaleAt W (pos zero) bias = Nothing
+scaleAt W (negsuc n) bias = Nothing
+
+abbrev pub given : Bool → Scale → Scale
+given true scale = scale
+given false scale = Nothing
+
+-- steps 1 to 4: the shift, with the float bias
+unfoldable pub scaleOf : ℕ → List Float → ℕ → Float → Scale
+scaleOf W ws centre c =
+    let T = total ws in
+    let S = absTotal ws in
+    let bias = floatBias T centre c in
+    let d = divisor W S bias in
+    given (finite T && finite S) (given (finite d) (scaleAt W (exponentOf (quotient W d)) bias))
+
+-- ---- 5. with p for 2^q: each weight times p to the nearest integer, halves away from zero, in 32 bits; the float bias times p cut toward zero, in 64
+abbrev pub weightOf : Float → Float → ℤ
+weightOf p w = roundedOf (w ⊗ p)
+
+abbrev pub weightsHold : Float → List Float → Bool
+weightsHold p [] = true
+weightsHold p (w ∷ ws) = holds 32 (w ⊗ p) (weightOf p w) && weightsHold p ws
+
+abbrev pub biasOf : Float → Float → ℤ
+biasOf p bias = cutOf (bias ⊗ p)
+
+abbrev pub biasHolds : Float → Float → Bool
+biasHolds p bias = holds 64 (bias ⊗ p) (biasOf p bias)
+
+-- what the steps come to: no configuration, or a shift, a bias and the weights
+pub data Outcome : Type 0 where
+  none : Outcome
+  found : ℕ → ℤ → List ℤ → Outcome
+
+abbrev pub only : Bool → Outcome → Outcome
+only true o = o
+only false o = none
+
+-- ---- 6. the accumulator rule
+unfoldable pub settled : ℕ → List Float → Scale → Outcome
+settled W ws Nothing = none
+settled W ws (By q floatBias) =
+    let p = float (2 ^ q) in
+    let weights = map (weightOf p) ws in
+    let bias = biasOf p floatBias in
+    only (weightsHold p ws) (only (biasHolds p floatBias) (only (admitted W bias weights) (found q bias weights)))
+
+unfoldable pub outcome : ℕ → List Float → ℕ → Float → Outcome
+outcome W ws centre c = settled W ws (scaleOf W ws centre c)

@@ -1,0 +1,5 @@
+pub mod Units
+pub mod Losses
+pub mod Sums
+pub mod Quotients
+pub mod Never

@@ -1,0 +1,4 @@
+pub mod Widths
+pub mod Signed
+pub mod Reading
+pub mod Writing
