@@ -1,11 +1,11 @@
 -- Batches: what a batch leaves in its array, and the loop that goes from batch to batch with the state between them.
 -- Over the width W, the order k and any predictor p. Assumes nothing.
-use mathlib.Core.Path.{_≡_, refl, sym, ap, ap₂, _∙_}
-use mathlib.Core.List.{List, [], _∷_, _++_, append-assoc, append-nil}
-use Prim.Native.Nat.{ℕ, suc, _+_, _-_, _≤_, _<_}
+use mathlib.Core.Path.{_≡_, refl, sym, ap, _∙_}
+use mathlib.Core.List.{List, _++_, append-assoc, append-nil}
+use Prim.Native.Nat.{ℕ, _+_, _-_, _≤_}
 use native.Mathlib.Omega.{arith}
 use lib.ListN.{length, take, drop, length-append, length-take, length-drop, drop-of-length-le, take-append-drop}
-use lib.Seq.{take-append-add, take-append-seam, take-at, drop-at, take-all, take-length, drop-length, take-append-le, drop-append-le, length-take-le, take-add, drop-drop}
+use lib.Seq.{take-append-add, take-append-seam, take-at, drop-at, take-all, take-append-le, drop-append-le, length-take-le, take-add, drop-drop}
 use borrow.Rule.Slice.PartMut.{putMid}
 use Rattle.slices.proofs.Copying.{replaced}
 use Rattle.rule.specs.Coding.{extended, decodedPiece, newState}

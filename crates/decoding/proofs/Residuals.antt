@@ -1,13 +1,13 @@
 -- The loop that turns residuals into samples where they lie: at place i the places before it are samples, and the list of these
 -- extended by the places from i on never changes. Over the width W, the order k and any predictor p. Assumes nothing.
-use mathlib.Core.Path.{_≡_, refl, sym, ap, _∙_}
-use mathlib.Core.List.{List, [], _∷_, _++_}
+use mathlib.Core.Path.{_≡_, sym, ap, _∙_}
+use mathlib.Core.List.{List}
 use Prim.Native.Nat.{ℕ, suc, _+_, _-_, _≤_, _<_}
 use native.Mathlib.Numerals.{add-one}
 use native.Mathlib.Omega.{arith}
 use lib.ListN.{length, getD, take, drop, set, length-set, drop-of-length-le}
 use lib.Seq.{drop-cons, take-suc-set, drop-set-lt, take-all}
-use Rattle.rule.specs.Coding.{window, restored, sampleOf, extended}
+use Rattle.rule.specs.Coding.{window, restored, extended}
 use Rattle.extending.proofs.Extending as extending
 
 -- the loop's invariant: o are the residuals as they came, l as they are

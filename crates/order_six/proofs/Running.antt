@@ -1,23 +1,23 @@
 -- The running sums of the order-6 way, over the width W. Every sum is a prefix of a prediction's, in the order of the weights and
 -- from the bias, so the two laws of the rule keep it inside the accumulator. Assumes nothing.
-use mathlib.Core.Path.{_≡_, refl, sym, ap, ap₂, _∙_}
+use mathlib.Core.Path.{_≡_, refl, sym, ap, _∙_}
 use mathlib.Core.Bool.{true}
 use mathlib.Core.List.{List, [], _∷_, _++_}
 use Prim.Native.Nat.{ℕ, zero, suc, _+_, _-_, _^_, _≤_, _<_}
 use native.Mathlib.Nat.{not-suc-le-zero, le-of-suc-le-suc}
 use native.Mathlib.Omega.{arith}
-use lib.Dec.{lit<, lit≤}
+use lib.Dec.{lit<}
 use lib.IntN.{ℤ, pos, _+ℤ_, _*ℤ_, *ℤ-zero, +ℤ-idr}
 use lib.ListN.{length, getD, take, drop, length-append, length-take, length-drop}
 use lib.Pow.{pow-pos}
-use lib.Seq.{getD-at, drop-append-le, drop-drop, getD-drop, length-take-le}
+use lib.Seq.{getD-at, drop-append-le, drop-drop, getD-drop}
 use lib.Signed.{mag}
 use mir.Syntax.{Width}
 use mir.Val.{SFits, hbits, toZ, ofZ}
 use mir.Facts.{toZ-ofZ}
 use Rattle.rule.specs.Numbers.{accumulator}
 use Rattle.rule.specs.Prediction.{admitted, sumAt}
-use Rattle.rule.proofs.Sums.{Samples, prefix-inside, product-inside, fits, sum-next, sum-whole}
+use Rattle.rule.proofs.Sums.{prefix-inside, product-inside, fits, sum-next, sum-whole}
 use Rattle.order_six.specs.Running.{six, runningSums, Runs, shifted}
 
 -- six elements are the list

@@ -1,8 +1,8 @@
 -- A turn of the order-6 loop, over the width W: it decodes one residual, so it is a batch of one, and its sample is predicted from
 -- the first running sum. Assumes nothing.
-use mathlib.Core.Path.{_≡_, refl, sym, ap, _∙_}
-use mathlib.Core.List.{List, [], _∷_, _++_}
-use Prim.Native.Nat.{ℕ, suc, _+_, _-_, _≤_, _<_}
+use mathlib.Core.Path.{_≡_, sym, ap, _∙_}
+use mathlib.Core.List.{List, [], _∷_}
+use Prim.Native.Nat.{ℕ, _+_, _-_, _<_}
 use native.Mathlib.Numerals.{add-one}
 use native.Mathlib.Omega.{arith}
 use lib.IntN.{ℤ, pos}
@@ -10,7 +10,7 @@ use lib.ListN.{length, getD, take, drop, set}
 use lib.Seq.{set-split, drop-drop, drop-cons, take-suc}
 use borrow.Rule.Slice.PartMut.{putMid}
 use Rattle.rule.specs.Prediction.{settle, prediction}
-use Rattle.rule.specs.Coding.{restored, decodedPiece, newState}
+use Rattle.rule.specs.Coding.{restored}
 use Rattle.extending.proofs.Extending as extending
 use Rattle.decoding.proofs.Batches as batches
 use Rattle.order_six.specs.Running.{Runs, shifted}

@@ -1,11 +1,13 @@
 -- Pieces: however residuals are cut, the outputs and then the final state are "state, then new samples" of them all; so two cuts agree.
 -- Assumes nothing.
 use mathlib.Core.Path.{_≡_, refl, sym, ap, _∙_}
-use mathlib.Core.List.{List, [], _∷_, _++_, append-assoc}
-use Prim.Native.Nat.{ℕ}
-use lib.ListN.{length}
-use Rattle.rule.specs.Coding.{extended, decodedPiece, newState}
-use Rattle.whole.specs.Pieces.{joined, outputs, finalState}
+use mathlib.Core.List.{List, [], _∷_, _++_}
+use Prim.Native.Nat.{ℕ, _≤_}
+use native.Mathlib.Omega.{arith}
+use lib.ListN.{length, take, drop, length-append}
+use lib.Seq.{take-at, length-take-le}
+use Rattle.rule.specs.Coding.{extended, decodedPiece, newState, arrayAfter}
+use Rattle.whole.specs.Pieces.{joined, outputs, finalState, callOutputs, lastArray}
 use Rattle.extending.proofs.Extending as extending
 
 module _ (W k : ℕ) (p : List ℕ → ℕ) where
@@ -37,3 +39,31 @@ module _ (W k : ℕ) (p : List ℕ → ℕ) where
       → (outputs W k p state these ≡ outputs W k p state those) × (finalState W k p state these ≡ finalState W k p state those)
   cuts-agree state these those full same =
       (rw (outputs-joined state these full, outputs-joined state those full, same), rw (state-joined state these full, state-joined state those full, same))
+
+  -- ---- the state in an array: what the calls read of it is its first k places
+  module _ (samples piece : List ℕ) (enough : k ≤ length samples) where
+    array-state : take k (arrayAfter W k p samples piece) ≡ newState W k p (take k samples) piece
+    array-state =
+        take-at (newState W k p (take k samples) piece) (drop k samples) k
+        (extending.length-state W k p (take k samples) piece (length-take-le k samples enough))
+
+    array-enough : k ≤ length (arrayAfter W k p samples piece)
+    array-enough =
+        omega (
+          arith,
+          length-append (newState W k p (take k samples) piece) (drop k samples),
+          extending.length-state W k p (take k samples) piece (length-take-le k samples enough),
+        )
+
+  pub call-outputs : (samples : List ℕ) (pieces : List (List ℕ)) → k ≤ length samples
+      → callOutputs W k p samples pieces ≡ outputs W k p (take k samples) pieces
+  call-outputs samples [] enough = refl
+  call-outputs samples (piece ∷ pieces) enough =
+      rw (call-outputs (arrayAfter W k p samples piece) pieces (array-enough samples piece enough), array-state samples piece enough)
+
+  pub last-state : (samples : List ℕ) (pieces : List (List ℕ)) → k ≤ length samples
+      → take k (lastArray W k p samples pieces) ≡ finalState W k p (take k samples) pieces
+  last-state samples [] enough = refl
+  last-state samples (piece ∷ pieces) enough =
+      last-state (arrayAfter W k p samples piece) pieces (array-enough samples piece enough)
+      ∙ ap (λ (state : List ℕ). finalState W k p state pieces) (array-state samples piece enough)

@@ -1,9 +1,9 @@
 -- Decoding undoes encoding, in one go: a residual with its prediction added is the sample, and so the residuals after the first k,
 -- decoded from the first k samples, give all the samples. Any width W, order k and predictor p with values below 2^W.
 -- Assumes nothing.
-use mathlib.Core.Path.{_≡_, refl, sym, ap, _∙_}
-use mathlib.Core.List.{List, [], _∷_, _++_}
-use Prim.Native.Nat.{ℕ, zero, suc, _+_, _-_, _*_, _%_, _^_, _≤_, _<_}
+use mathlib.Core.Path.{_≡_, sym, _∙_}
+use mathlib.Core.List.{List, [], _∷_}
+use Prim.Native.Nat.{ℕ, zero, suc, _+_, _-_, _%_, _^_, _≤_, _<_}
 use native.Mathlib.Nat.{add-zero, add-suc, mod-eq-of-lt, add-mod-right, mod-add-mod, two-pow-succ}
 use native.Mathlib.Omega.{arith}
 use borrow.Author.Tests.{le-ltb}

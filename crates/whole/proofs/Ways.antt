@@ -1,12 +1,12 @@
 -- At order 6 the fast way and the general way are the same call, from any state and on any piece; so calls in order may go either
 -- way in turn. Assumes nothing.
-use mathlib.Core.Path.{_≡_, refl, ap, _∙_}
+use mathlib.Core.Path.{_≡_, refl, ap}
 use mathlib.Core.Bool.{Bool, true, false}
 use mathlib.Core.List.{List, [], _∷_}
 use Prim.Native.Nat.{ℕ}
 use borrow.Author.Tests.{eq-eqb}
 use Rattle.rule.specs.Refusals.{Config, codingRefusal, orderSixRefusal}
-use Rattle.whole.specs.Calls.{Called, called, generalCall, orderSixCall, Asked, callBy, calls, allGeneral}
+use Rattle.whole.specs.Calls.{Called, generalCall, orderSixCall, Asked, callBy, calls, allGeneral}
 
 module _ (W : ℕ) (c : Config) (count : ℕ) (six : c .order ≡ 6) where
   pub refusals-agree : orderSixRefusal W c count ≡ codingRefusal W c count

@@ -1,7 +1,7 @@
 -- A decoding call as its contract gives it, whole: from the width, the configuration, the state's length and array, and the piece,
 -- to the answer, the piece and the array afterwards. The two ways differ in their refusals alone.
 use mathlib.Core.Bool.{Bool, true, false}
-use mathlib.Core.List.{List, [], _∷_, _++_}
+use mathlib.Core.List.{List, [], _∷_}
 use Prim.Native.Nat.{ℕ}
 use Rattle.kinds.specs.declared.Answer.{Answer}
 use Rattle.kinds.specs.Answers.{whenDone}

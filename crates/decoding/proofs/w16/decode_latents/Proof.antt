@@ -1,6 +1,6 @@
 -- The loop is `Batches`' second part. Assumes nothing.
 use mathlib.Core.Path.{_≡_, refl, sym, _∙_}
-use Prim.Native.Nat.{ℕ, _-_}
+use Prim.Native.Nat.{_-_}
 use native.Mathlib.Omega.{arith}
 use borrow.Author.Needs.{needs}
 use lib.ListN.{length, length-take}
@@ -14,7 +14,7 @@ use Rattle.decoding.proofs.w16.decode_latents.Tie as tie
 
 abbrev Inv-loop : tie.InvT-loop
 Inv-loop weights bias shift state₀ latents₀ residuals₀ start₀ state latents residuals start =
-    (length residuals ≡ 544) × law.Going 16 (length weights) (prediction 16 (shift .0) (toZ acc bias) weights) state₀ latents₀ state latents start
+    (length residuals ≡ 160) × law.Going 16 (length weights) (prediction 16 (shift .0) (toZ acc bias) weights) state₀ latents₀ state latents start
 
 abbrev μ-loop : tie.MeasureT-loop
 μ-loop weights bias shift state₀ latents₀ residuals₀ start₀ state latents residuals start = length latents - start
