@@ -24,7 +24,7 @@ leb-same a b c d f g = go (leb a b) refl
     go true e = e ∙ sym (le-leb c d (f (leb-true a b e)))
     go false e = e ∙ sym (lt-leb c d (g (leb-false a b e)))
 
--- the greatest sample of at most 32 bits times an absolute weight of 32 bits
+-- what one weight can cost at most: 2^32 - 1 for each of 2^31
 pub cost-fits : (m z : ℕ) → m < 2 ^ 32 → z ≤ 2 ^ 31 → Fits w64 (m * z)
 cost-fits m z h k = record { fits = lt-of-le-of-lt (mul-le-mul (le-of-lt h) k) (lit< tt) }
 

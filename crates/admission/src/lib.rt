@@ -48,7 +48,7 @@ fn accumulator_limit(width: Width) -> u64
     }
 }
 
-// The absolute value, of the least number too: the flip of a negative b is -b - 1.
+// The absolute value. Negating the least number would overflow, so a negative one is flipped, which gives one less.
 pub fn magnitude(b: i64) -> u64
     ensures { λ r. ⌜ r ≡ natAbs b ⌝ }
 {

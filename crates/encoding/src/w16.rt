@@ -155,8 +155,8 @@ pub fn encode_in_place(
     }
 }
 
-// The same, with the residuals handed back as that part of the caller's own slice, an empty part after a refusal, and the answer's
-// number beside it.
+// The same, and the residuals come back as the part of `latents` that holds them, or as an empty part after a refusal, with the
+// answer's number beside it.
 pub fn encode<'a, 'b, 'c>(
     order: Order,
     shift: Shift,

@@ -10,7 +10,7 @@ use lib.ListN.{length, take, drop, length-append, length-drop, take-append-drop}
 use lib.Seq.{take-nil, take-append-add, drop-append-add, drop-at, take-append-le, drop-append-le, length-take-le}
 use Rattle.rule.specs.Coding.{window, restored, sampleOf, extended, decodedPiece, newState}
 
--- a part of a front is a front of a part
+-- dropping from a front is taking from what is left
 drop-take : (a t : ℕ) (l : List ℕ) → drop a (take t l) ≡ take (t - a) (drop a l)
 drop-take zero t l = rw sub-zero
 drop-take (suc a) zero l = rw zero-sub

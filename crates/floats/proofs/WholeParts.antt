@@ -1,4 +1,4 @@
--- The whole part of q * 2 ^ s / 2 ^ 1074, and the nearest whole number, as shifts of q work them out. `one` stands for 2 ^ 1074, which no tactic may see written out.
+-- The whole part of q * 2 ^ s / 2 ^ 1074, and the nearest whole number, as shifts of q work them out. 2 ^ 1074 is behind the name `one`: written out it is too long for a tactic.
 use mathlib.Core.Path.{_≡_, sym, ap, _∙_, subst}
 use Prim.Native.Nat.{ℕ, _+_, _-_, _*_, _/_, _%_, _^_, _≤_, _<_, min}
 use native.Mathlib.Nat.{le-trans, le-of-eq, lt-of-lt-of-le, lt-of-le-of-lt, mul-pos, mul-assoc, mul-comm, mul-left-comm, mul-le-mul, mul-le-mul-right, mul-add, add-mul, div-eq-of-lt, le-div-iff-mul-le, mod-eq-of-lt, one-mul}
@@ -131,7 +131,7 @@ module _ (q s : ℕ) (d : Digits q s) where
         few : (s : ℕ) → 1010 < s → 1074 - s - 1 < 63
         few s l = omega arith
 
-    -- 1 << (k - 1), as the machine has it
+    -- the shift of 1 by k - 1 in 64 bits
     half-is : 1 * 2 ^ (k - 1) % 2 ^ 64 ≡ 2 ^ (k - 1)
     half-is = ap (λ (z : ℕ). z % 2 ^ 64) (one-mul _) ∙ mod-eq-of-lt (lt-of-lt-of-le half-lt (lit≤ tt))
 

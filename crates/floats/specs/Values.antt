@@ -31,7 +31,7 @@ pub record Unpacked (x : Float) (negative : Bool) (digits shift : ℕ) : Type 0 
 unfoldable pub exponentOf : Float → ℤ
 exponentOf x = minus (size (num x * 2 ^ 1074 / den x)) 1075
 
--- a / c to the nearest whole number, a half up: the whole part of a / c + 1 / 2
+-- the whole number nearest to a / c, the greater of two that are as near
 abbrev pub halfUp : ℕ → ℕ → ℕ
 halfUp a c = (2 * a + c) / (2 * c)
 

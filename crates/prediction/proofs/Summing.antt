@@ -1,4 +1,4 @@
--- The loop that adds each weight times its sample, over the width W.
+-- The sum of a prediction as its loop makes it, over the width W.
 -- Every sum on the way is one of the first weights from the bias, so the two laws above `admitted` keep it inside.
 -- Assumes nothing.
 use mathlib.Core.Path.{_≡_, refl, sym, ap, _∙_, subst}

@@ -29,7 +29,7 @@ x ⊘ y = div binary64 x y
 abbrev pub float : ℕ → Float
 float n = ofInt binary64 (pos n)
 
--- ---- 1. T is the weights' sum and S the sum of their absolute values, from 0.0 in index order
+-- ---- 1. the weights added up, and their magnitudes added up, each from 0.0 on and in the order of their places
 abbrev pub sumFrom : Float → List Float → Float
 sumFrom t [] = t
 sumFrom t (w ∷ ws) = sumFrom (t ⊕ w) ws
@@ -40,7 +40,7 @@ total ws = sumFrom (float 0) ws
 unfoldable pub absTotal : List Float → Float
 absTotal ws = sumFrom (float 0) (map magnitude ws)
 
--- ---- 2. (1.0 - T) times centre, plus c; and S times M, plus the absolute float bias, plus 1.0
+-- ---- 2. the float bias, (1.0 - T) · centre + c; and the divisor, S · M + |float bias| + 1.0
 unfoldable pub floatBias : Float → ℕ → Float → Float
 floatBias T centre c = (float 1 ⊖ T) ⊗ float centre ⊕ c
 
@@ -51,7 +51,7 @@ divisor W S bias = S ⊗ float (greatest W) ⊕ magnitude bias ⊕ float 1
 unfoldable pub quotient : ℕ → Float → Float
 quotient W d = float (limit W) ⊘ d
 
--- ---- 4. q is the least of e-1, MAX_CONV1_DELTA_QUANTIZATION and A-1; a negative one is refused
+-- ---- 4. one less than e, held to the record's greatest shift and to A-1; below 0 there is no configuration
 abbrev pub greatestShift : ℕ
 greatestShift = 31
 

@@ -1,4 +1,4 @@
--- From an admitted configuration every partial sum that starts from the bias, in any order of adding the terms, lies inside the
+-- Whatever the order in which the terms of an admitted configuration are added to its bias, no sum on the way leaves the
 -- accumulator: `any-order`. Nothing else leans on it; the code adds in weight order.
 -- Assumes nothing.
 use mathlib.Core.Path.{_≡_, refl, ap, _∙_}

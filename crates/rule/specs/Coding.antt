@@ -47,7 +47,7 @@ abbrev pub extended : ℕ → ℕ → (List ℕ → ℕ) → List ℕ → List �
 extended W k p known [] = known
 extended W k p known (r ∷ rs) = extended W k p (known ++ sampleOf W k p known r ∷ []) rs
 
--- of "state, then new samples", the first m replace the piece of m residuals, and the last k are the new state
+-- a piece of m residuals gives way to the first m of that list, from the state on; what is left, k samples, is the new state
 unfoldable pub decodedPiece : ℕ → ℕ → (List ℕ → ℕ) → List ℕ → List ℕ → List ℕ
 decodedPiece W k p state piece = take (length piece) (extended W k p state piece)
 

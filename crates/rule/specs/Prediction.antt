@@ -12,7 +12,7 @@ abbrev pub sumAbs : List ℤ → ℕ
 sumAbs [] = 0
 sumAbs (w ∷ ws) = natAbs w + sumAbs ws
 
--- the absolute bias plus M times the sum of the absolute weights is at most 2^(A-1)-1
+-- |bias| + M · Σ |weight| ≤ 2^(A-1)-1
 unfoldable pub admitted : ℕ → ℤ → List ℤ → Bool
 admitted W bias ws = leb (natAbs bias + greatest W * sumAbs ws) (limit W)
 

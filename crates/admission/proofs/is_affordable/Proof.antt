@@ -64,7 +64,7 @@ module _ (c : tie.After-magnitude Inv-loop μ-loop) where
   abbrev rest : ℕ
   rest = sumAbs (drop (i (c .before) + 1) (weights (c .before)))
 
-  -- the invariant, with the weight of this turn apart
+  -- what the invariant says, once this turn's weight is split off
   apart : leb (most * (c .magnitude .result + rest)) left ≡ leb (most * sumAbs (weights (c .before))) (c .before .before .before .before .args .budget)
   apart =
       ap (λ (n : ℕ). leb (most * n) left) (ap (λ (n : ℕ). n + rest) abs-is ∙ sym (budget.next-weight (weights (c .before)) (i (c .before)) (omega arith)))
