@@ -177,9 +177,9 @@ fn at_widths(order: usize, n: usize) {
     let narrow = NARROW;
     let middle = MIDDLE;
     let wide = WIDE;
-    w8::case(order, 1, -100, &narrow[..order], n);
-    w16::case(order, 9, -70000, &middle[..order], n);
-    w32::case(order, 15, 8000000000, &wide[..order], n);
+    w8::case(Order(order), Shift(1), -100, &narrow[..order], n);
+    w16::case(Order(order), Shift(9), -70000, &middle[..order], n);
+    w32::case(Order(order), Shift(15), 8000000000, &wide[..order], n);
 }
 
 fn every_order() {
@@ -214,46 +214,46 @@ fn every_length(order: usize) {
 
 // Shifts at both ends, sums at the accumulator's edges, sums below 0 and predictions that wrap.
 fn edges() {
-    w8::case(1, 0, 127, &[128], 600);
-    w8::case(1, 0, 128, &[128], 600);
-    w8::case(1, 15, -127, &[-128], 600);
-    w8::case(1, 0, -128, &[-128], 600);
-    w8::case(1, 16, 0, &[1], 600);
-    w8::case(2, 0, 0, &[64, 64], 600);
-    w8::case(2, 6, 0, &[-64, 128], 600);
-    w8::case(1, 0, -9223372036854775808, &[0], 600);
-    w16::case(1, 0, 32767, &[32768], 600);
-    w16::case(1, 0, 65535, &[32768], 600);
-    w16::case(1, 0, 0, &[32769], 600);
-    w16::case(1, 31, -65535, &[-32767], 600);
-    w16::case(1, 32, 0, &[1], 600);
-    w32::case(1, 0, 0, &[2147483647], 600);
-    w32::case(1, 0, 2147483647, &[-2147483648], 600);
-    w32::case(1, 0, 2147483648, &[-2147483648], 600);
-    w32::case(1, 63, -9223372036854775807, &[0], 600);
-    w32::case(1, 0, -9223372036854775808, &[0], 600);
-    w32::case(1, 64, 0, &[1], 600);
-    w32::case(3, 0, 0, &[-2147483648, -2147483648, 2], 600);
-    w32::case(1, 0, 0, &[2], 600);
+    w8::case(Order(1), Shift(0), 127, &[128], 600);
+    w8::case(Order(1), Shift(0), 128, &[128], 600);
+    w8::case(Order(1), Shift(15), -127, &[-128], 600);
+    w8::case(Order(1), Shift(0), -128, &[-128], 600);
+    w8::case(Order(1), Shift(16), 0, &[1], 600);
+    w8::case(Order(2), Shift(0), 0, &[64, 64], 600);
+    w8::case(Order(2), Shift(6), 0, &[-64, 128], 600);
+    w8::case(Order(1), Shift(0), -9223372036854775808, &[0], 600);
+    w16::case(Order(1), Shift(0), 32767, &[32768], 600);
+    w16::case(Order(1), Shift(0), 65535, &[32768], 600);
+    w16::case(Order(1), Shift(0), 0, &[32769], 600);
+    w16::case(Order(1), Shift(31), -65535, &[-32767], 600);
+    w16::case(Order(1), Shift(32), 0, &[1], 600);
+    w32::case(Order(1), Shift(0), 0, &[2147483647], 600);
+    w32::case(Order(1), Shift(0), 2147483647, &[-2147483648], 600);
+    w32::case(Order(1), Shift(0), 2147483648, &[-2147483648], 600);
+    w32::case(Order(1), Shift(63), -9223372036854775807, &[0], 600);
+    w32::case(Order(1), Shift(0), -9223372036854775808, &[0], 600);
+    w32::case(Order(1), Shift(64), 0, &[1], 600);
+    w32::case(Order(3), Shift(0), 0, &[-2147483648, -2147483648, 2], 600);
+    w32::case(Order(1), Shift(0), 0, &[2], 600);
 }
 
 // One fault, and faults that meet: the first in the order 1, 2, 4, 3, 5 is told.
 fn refusals() {
     let many: [i32; 33] = [0; 33];
     let least: [i32; 32] = [-2147483648; 32];
-    w16::case(0, 0, 0, &many[..0], 5);
-    w16::case(33, 0, 0, &many, 50);
-    w16::case(33, 32, 0, &many[..1], 5);
-    w16::case(2, 32, 0, &many[..1], 1);
-    w16::case(2, 31, 0, &many[..1], 1);
-    w16::case(2, 0, 0, &least[..3], 1);
-    w16::case(2, 0, 0, &least[..2], 1);
-    w16::case(2, 0, 0, &many[..2], 1);
-    w16::case(2, 0, 0, &many[..2], 0);
-    w16::case(2, 0, 0, &many[..2], 2);
-    w32::case(32, 63, -9223372036854775808, &least, 100);
-    w32::case(32, 63, 0, &many[..32], 31);
-    w8::case(32, 15, 0, &many[..32], 32);
+    w16::case(Order(0), Shift(0), 0, &many[..0], 5);
+    w16::case(Order(33), Shift(0), 0, &many, 50);
+    w16::case(Order(33), Shift(32), 0, &many[..1], 5);
+    w16::case(Order(2), Shift(32), 0, &many[..1], 1);
+    w16::case(Order(2), Shift(31), 0, &many[..1], 1);
+    w16::case(Order(2), Shift(0), 0, &least[..3], 1);
+    w16::case(Order(2), Shift(0), 0, &least[..2], 1);
+    w16::case(Order(2), Shift(0), 0, &many[..2], 1);
+    w16::case(Order(2), Shift(0), 0, &many[..2], 0);
+    w16::case(Order(2), Shift(0), 0, &many[..2], 2);
+    w32::case(Order(32), Shift(63), -9223372036854775808, &least, 100);
+    w32::case(Order(32), Shift(63), 0, &many[..32], 31);
+    w8::case(Order(32), Shift(15), 0, &many[..32], 32);
 }
 
 fn main() {

@@ -165,26 +165,12 @@ fn report(
 }
 
 // A line for each way.
-pub fn case(order: usize, shift: u32, bias: i64, weights: &[i32], n: usize) {
+pub fn case(order: Order, shift: Shift, bias: i64, weights: &[i32], n: usize) {
     if crate::MOST < n {
         return;
     }
     let mut latents: [u32; 2048] = [0; 2048];
-    report(
-        Order(order),
-        Shift(shift),
-        bias,
-        weights,
-        &mut latents[..n],
-        true,
-    );
+    report(order, shift, bias, weights, &mut latents[..n], true);
     let mut again: [u32; 2048] = [0; 2048];
-    report(
-        Order(order),
-        Shift(shift),
-        bias,
-        weights,
-        &mut again[..n],
-        false,
-    );
+    report(order, shift, bias, weights, &mut again[..n], false);
 }

@@ -2,7 +2,7 @@
 -- residuals may come in several goes, that what was known stays, and that only the last k of the known samples count.
 -- Assumes nothing.
 use mathlib.Core.Path.{_≡_, refl, sym, ap, _∙_}
-use mathlib.Core.List.{List, [], _∷_, _++_, append-assoc, append-nil}
+use mathlib.Core.List.{List, [], _∷_, _++_, append-assoc}
 use Prim.Native.Nat.{ℕ, zero, suc, _+_, _-_, _≤_, _<_}
 use native.Mathlib.Nat.{add-zero, sub-zero, zero-sub, suc-sub-suc, sub-self}
 use native.Mathlib.Omega.{arith}

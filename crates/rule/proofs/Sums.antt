@@ -1,9 +1,9 @@
 -- The sums of a prediction, over the width W. Above `admitted` stand two laws alone: on any samples of W bits every sum of the
 -- first weights, from the bias, and every product lies inside the accumulator. What else is needed of them follows here.
 -- Assumes nothing.
-use mathlib.Core.Path.{_≡_, refl, sym, ap, _∙_}
+use mathlib.Core.Path.{_≡_, refl}
 use mathlib.Core.Bool.{true}
-use mathlib.Core.List.{List, [], _∷_, _++_}
+use mathlib.Core.List.{List, [], _∷_}
 use Prim.Native.Nat.{ℕ, zero, suc, _+_, _-_, _*_, _^_, _≤_, _<_}
 use native.Mathlib.Nat.{mul-add, mul-le-mul-left, not-suc-le-zero, le-of-suc-le-suc}
 use native.Mathlib.Numerals.{add-one}

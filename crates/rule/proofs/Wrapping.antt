@@ -5,7 +5,7 @@ use Prim.Native.Nat.{ℕ, _+_, _-_, _%_, _^_, _<_}
 use native.Mathlib.Nat.{mod-eq-of-lt, add-mod-right, mod-add-mod}
 use native.Mathlib.Omega.{arith}
 use Rattle.rule.specs.Numbers.{centre}
-use Rattle.rule.specs.Coding.{toggled, residual, restored}
+use Rattle.rule.specs.Coding.{toggled, residual}
 
 module _ (n y : ℕ) (below : y < n) where
   whole : (d : ℕ) → d + n ≡ d + y + (n - y)

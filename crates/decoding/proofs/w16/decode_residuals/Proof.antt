@@ -1,10 +1,9 @@
 -- The loop is `Residuals`'. Assumes nothing.
-use mathlib.Core.Path.{_≡_, refl, ap, _∙_}
-use mathlib.Core.List.{List}
-use Prim.Native.Nat.{ℕ, _≤_, _-_}
+use mathlib.Core.Path.{ap, _∙_}
+use Prim.Native.Nat.{_-_}
 use native.Mathlib.Omega.{arith}
 use borrow.Author.Needs.{needs}
-use lib.ListN.{length, getD, length-set, length-take, length-drop}
+use lib.ListN.{length, getD, length-set}
 use mir.Syntax.{w32 as acc}
 use mir.Val.{toZ, ofZ}
 use mir.Facts.{toZ-ofZ}

@@ -3,18 +3,17 @@ use mathlib.Core.Path.{_≡_, ap, _∙_}
 use mathlib.Core.List.{List, _++_}
 use Prim.Native.Nat.{ℕ, _-_, _+_, _≤_}
 use native.Mathlib.Omega.{arith}
-use borrow.Author.Needs.{needs}
 use lib.ListN.{length, getD, drop}
 use Rattle.rule.proofs.Filling as filling
 use Rattle.encoding.proofs.w32.hold_over.Statement.{statement}
 use Rattle.encoding.proofs.w32.hold_over.Tie as tie
 
 abbrev Inv-loop : tie.InvT-loop
-Inv-loop predictions₀ order i₀ predictions i =
-    (i ≤ order) × filling.Filled (λ (j : ℕ). getD predictions₀ (512 + j) 0) predictions₀ predictions i
+Inv-loop predictions₀ count i₀ predictions i =
+    (i ≤ count) × filling.Filled (λ (j : ℕ). getD predictions₀ (512 + j) 0) predictions₀ predictions i
 
 abbrev μ-loop : tie.MeasureT-loop
-μ-loop predictions₀ order i₀ predictions i = order - i
+μ-loop predictions₀ count i₀ predictions i = count - i
 
 loop-holds : tie.Need-loop-holds Inv-loop μ-loop
 loop-holds c = (omega arith, filling.fill-begin)
@@ -59,7 +58,7 @@ returns : tie.Need-returns Inv-loop μ-loop
 returns c =
     let z = c .before .before .args .predictions .now in
     let l = c .before .loop in
-    let e : l .i ≡ c .before .before .args .order = omega arith in
+    let e : l .i ≡ c .before .before .args .count = omega arith in
     l .inv .1 .is ∙ ap (λ (t : List ℕ). t ++ drop (l .i) z) (filling.tabulate-part z 0 (l .i) 512 (omega arith)) ∙ rw e
 
 pub hold-over-spec : {M : Type 1} → statement M

@@ -1,6 +1,5 @@
 -- The part begins inside the slice that `encode_into` leaves, and holds its residuals, or nothing. Assumes nothing.
-use mathlib.Core.Path.{_≡_, refl, sym, ap, _∙_}
-use mathlib.Core.Bool.{true}
+use mathlib.Core.Path.{_≡_, sym, ap, _∙_}
 use mathlib.Core.List.{List}
 use Prim.Native.Nat.{ℕ, _≤_}
 use native.Mathlib.Omega.{arith}
@@ -8,7 +7,7 @@ use borrow.Author.Needs.{needs}
 use lib.ListN.{length}
 use mir.Facts.{toZ-ofZ}
 use Rattle.kinds.specs.declared.Answer.{Answer}
-use Rattle.kinds.specs.Answers.{isDone, numberOf, whenDone}
+use Rattle.kinds.specs.Answers.{isDone, whenDone}
 use Rattle.rule.specs.Coding.{encodedBuffer}
 use Rattle.rule.specs.Refusals.{Config, config, predictor, encodingRefusal}
 use Rattle.rule.proofs.Passing as passing

@@ -1,5 +1,5 @@
 -- From six zeros, whose sums are the bias, the state comes sample by sample. Assumes nothing.
-use mathlib.Core.Path.{_≡_, _∙_}
+use mathlib.Core.Path.{_∙_}
 use borrow.Author.Needs.{needs}
 use mir.Facts.{toZ-ofZ}
 use Rattle.order_six.proofs.Running as law

@@ -1,8 +1,7 @@
 -- A negative sum becomes 0; of any other the shift is a division and the remainder a reduction. Assumes nothing.
 use mathlib.Core.Path.{_≡_, ap, _∙_}
-use Prim.Native.Nat.{ℕ, _/_, _%_, _^_}
+use Prim.Native.Nat.{ℕ, _%_, _^_}
 use borrow.Author.Needs.{needs}
-use lib.IntN.{natAbs}
 use mir.Facts.{toZ-ofZ, fits-natAbs}
 use mir.Syntax.{w64 as acc}
 use mir.Val.{toZ, ofZ}
