@@ -1,0 +1,385 @@
+//! A safe wrapper over the exported functions: slices in, answers out. The declarations follow include/claspotter.h; a slice passes
+//! as its pointer and the number of its entries. No function asks anything of its caller but true pointers and lengths, which a slice
+//! gives, so that nothing here can be called wrongly.
+
+use crate::port::{Config, Way};
+use crate::records::{Fields, Reading, Writing};
+
+macro_rules! coding {
+    ($module: ident, $t: ident, $encode: ident, $decode: ident, $general: ident, $six: ident, $admits: ident,
+     $encode_bytes: ident, $decode_bytes: ident, $general_bytes: ident, $six_bytes: ident, $quantise: ident) => {
+        pub mod $module {
+            use super::*;
+
+            extern "C" {
+                fn $encode(
+                    order: usize,
+                    shift: u32,
+                    bias: i64,
+                    weights: *const i32,
+                    weights_len: usize,
+                    samples: *mut $t,
+                    samples_len: usize,
+                    state: *mut $t,
+                    state_len: usize,
+                ) -> u32;
+                fn $decode(
+                    order: usize,
+                    shift: u32,
+                    bias: i64,
+                    weights: *const i32,
+                    weights_len: usize,
+                    state: *mut $t,
+                    state_len: usize,
+                    piece: *mut $t,
+                    piece_len: usize,
+                ) -> u32;
+                fn $general(
+                    order: usize,
+                    shift: u32,
+                    bias: i64,
+                    weights: *const i32,
+                    weights_len: usize,
+                    state: *mut $t,
+                    state_len: usize,
+                    piece: *mut $t,
+                    piece_len: usize,
+                ) -> u32;
+                fn $six(
+                    order: usize,
+                    shift: u32,
+                    bias: i64,
+                    weights: *const i32,
+                    weights_len: usize,
+                    state: *mut $t,
+                    state_len: usize,
+                    piece: *mut $t,
+                    piece_len: usize,
+                ) -> u32;
+                fn $admits(bias: i64, weights: *const i32, weights_len: usize) -> u32;
+            }
+
+            #[cfg(port_bytes)]
+            extern "C" {
+                fn $encode_bytes(
+                    order: usize,
+                    shift: u32,
+                    bias: i64,
+                    weights: *const u8,
+                    weights_len: usize,
+                    samples: *mut u8,
+                    samples_len: usize,
+                    state: *mut u8,
+                    state_len: usize,
+                ) -> u32;
+                fn $decode_bytes(
+                    order: usize,
+                    shift: u32,
+                    bias: i64,
+                    weights: *const u8,
+                    weights_len: usize,
+                    state: *mut u8,
+                    state_len: usize,
+                    piece: *mut u8,
+                    piece_len: usize,
+                ) -> u32;
+                fn $general_bytes(
+                    order: usize,
+                    shift: u32,
+                    bias: i64,
+                    weights: *const u8,
+                    weights_len: usize,
+                    state: *mut u8,
+                    state_len: usize,
+                    piece: *mut u8,
+                    piece_len: usize,
+                ) -> u32;
+                fn $six_bytes(
+                    order: usize,
+                    shift: u32,
+                    bias: i64,
+                    weights: *const u8,
+                    weights_len: usize,
+                    state: *mut u8,
+                    state_len: usize,
+                    piece: *mut u8,
+                    piece_len: usize,
+                ) -> u32;
+            }
+
+            #[cfg(port_quantise)]
+            extern "C" {
+                fn $quantise(
+                    order: usize,
+                    floats: *const f64,
+                    floats_len: usize,
+                    centred_bias: f64,
+                    centre: $t,
+                    weights: *mut i32,
+                    weights_len: usize,
+                    shift: *mut u32,
+                    bias: *mut i64,
+                ) -> u32;
+            }
+
+            #[inline]
+            pub fn encode(c: &Config, samples: &mut [$t], state: &mut [$t]) -> u32 {
+                unsafe {
+                    $encode(
+                        c.order,
+                        c.shift,
+                        c.bias,
+                        c.weights.as_ptr(),
+                        c.weights.len(),
+                        samples.as_mut_ptr(),
+                        samples.len(),
+                        state.as_mut_ptr(),
+                        state.len(),
+                    )
+                }
+            }
+
+            #[inline]
+            pub fn decode(way: Way, c: &Config, state: &mut [$t], piece: &mut [$t]) -> u32 {
+                let function = match way {
+                    Way::Chosen => $decode,
+                    Way::General => $general,
+                    Way::OrderSix => $six,
+                };
+                unsafe {
+                    function(
+                        c.order,
+                        c.shift,
+                        c.bias,
+                        c.weights.as_ptr(),
+                        c.weights.len(),
+                        state.as_mut_ptr(),
+                        state.len(),
+                        piece.as_mut_ptr(),
+                        piece.len(),
+                    )
+                }
+            }
+
+            pub fn admits(bias: i64, weights: &[i32]) -> u32 {
+                unsafe { $admits(bias, weights.as_ptr(), weights.len()) }
+            }
+
+            #[cfg(port_bytes)]
+            #[inline]
+            pub fn encode_bytes(c: &Config<u8>, samples: &mut [u8], state: &mut [u8]) -> u32 {
+                unsafe {
+                    $encode_bytes(
+                        c.order,
+                        c.shift,
+                        c.bias,
+                        c.weights.as_ptr(),
+                        c.weights.len(),
+                        samples.as_mut_ptr(),
+                        samples.len(),
+                        state.as_mut_ptr(),
+                        state.len(),
+                    )
+                }
+            }
+
+            #[cfg(port_bytes)]
+            #[inline]
+            pub fn decode_bytes(way: Way, c: &Config<u8>, state: &mut [u8], piece: &mut [u8]) -> u32 {
+                let function = match way {
+                    Way::Chosen => $decode_bytes,
+                    Way::General => $general_bytes,
+                    Way::OrderSix => $six_bytes,
+                };
+                unsafe {
+                    function(
+                        c.order,
+                        c.shift,
+                        c.bias,
+                        c.weights.as_ptr(),
+                        c.weights.len(),
+                        state.as_mut_ptr(),
+                        state.len(),
+                        piece.as_mut_ptr(),
+                        piece.len(),
+                    )
+                }
+            }
+
+            #[cfg(not(port_bytes))]
+            pub fn encode_bytes(_: &Config<u8>, _: &mut [u8], _: &mut [u8]) -> u32 {
+                unreachable!("not exported")
+            }
+
+            #[cfg(not(port_bytes))]
+            pub fn decode_bytes(_: Way, _: &Config<u8>, _: &mut [u8], _: &mut [u8]) -> u32 {
+                unreachable!("not exported")
+            }
+
+            /// The answer, the shift and the bias; the weights fill the lent slice.
+            #[cfg(port_quantise)]
+            pub fn quantise(order: usize, floats: &[f64], centred_bias: f64, centre: $t, weights: &mut [i32]) -> (u32, u32, i64) {
+                let (mut shift, mut bias) = (u32::MAX, i64::MAX);
+                let answer = unsafe {
+                    $quantise(
+                        order,
+                        floats.as_ptr(),
+                        floats.len(),
+                        centred_bias,
+                        centre,
+                        weights.as_mut_ptr(),
+                        weights.len(),
+                        &mut shift,
+                        &mut bias,
+                    )
+                };
+                (answer, shift, bias)
+            }
+
+            #[cfg(not(port_quantise))]
+            pub fn quantise(_: usize, _: &[f64], _: f64, _: $t, _: &mut [i32]) -> (u32, u32, i64) {
+                unreachable!("not exported")
+            }
+        }
+    };
+}
+
+coding!(
+    w8,
+    u8,
+    claspotter_encode_u8,
+    claspotter_decode_u8,
+    claspotter_decode_general_u8,
+    claspotter_decode_order_6_u8,
+    claspotter_admits_8,
+    claspotter_encode_bytes_8,
+    claspotter_decode_bytes_8,
+    claspotter_decode_general_bytes_8,
+    claspotter_decode_order_6_bytes_8,
+    claspotter_quantise_8
+);
+coding!(
+    w16,
+    u16,
+    claspotter_encode_u16,
+    claspotter_decode_u16,
+    claspotter_decode_general_u16,
+    claspotter_decode_order_6_u16,
+    claspotter_admits_16,
+    claspotter_encode_bytes_16,
+    claspotter_decode_bytes_16,
+    claspotter_decode_general_bytes_16,
+    claspotter_decode_order_6_bytes_16,
+    claspotter_quantise_16
+);
+coding!(
+    w32,
+    u32,
+    claspotter_encode_u32,
+    claspotter_decode_u32,
+    claspotter_decode_general_u32,
+    claspotter_decode_order_6_u32,
+    claspotter_admits_32,
+    claspotter_encode_bytes_32,
+    claspotter_decode_bytes_32,
+    claspotter_decode_general_bytes_32,
+    claspotter_decode_order_6_bytes_32,
+    claspotter_quantise_32
+);
+
+#[cfg(port_record)]
+mod record {
+    use super::*;
+
+    extern "C" {
+        fn claspotter_read_record(
+            bytes: *const u8,
+            bytes_len: usize,
+            variants: bool,
+            variant: *mut u32,
+            order: *mut usize,
+            window: *mut u32,
+            state: *mut u32,
+            flag: *mut u32,
+            shift: *mut u32,
+            bias: *mut i64,
+            bits: *mut usize,
+        ) -> u32;
+        fn claspotter_read_record_weight(bytes: *const u8, bytes_len: usize, variants: bool, place: usize) -> i32;
+        fn claspotter_write_record(
+            variant: u32,
+            order: usize,
+            window: u32,
+            state: u32,
+            flag: bool,
+            shift: u32,
+            bias: i64,
+            weights: *const i32,
+            weights_len: usize,
+            bytes: *mut u8,
+            bytes_len: usize,
+            bits: *mut usize,
+        ) -> u32;
+    }
+
+    pub fn read_record(bytes: &[u8], variants: bool) -> Reading {
+        let mut fields = Fields::default();
+        let (mut flag, mut bits) = (u32::MAX, usize::MAX);
+        let answer = unsafe {
+            claspotter_read_record(
+                bytes.as_ptr(),
+                bytes.len(),
+                variants,
+                &mut fields.variant,
+                &mut fields.order,
+                &mut fields.window,
+                &mut fields.state,
+                &mut flag,
+                &mut fields.shift,
+                &mut fields.bias,
+                &mut bits,
+            )
+        };
+        fields.flag = flag != 0;
+        for (place, weight) in fields.weights.iter_mut().enumerate() {
+            *weight = unsafe { claspotter_read_record_weight(bytes.as_ptr(), bytes.len(), variants, place) };
+        }
+        Reading { answer, fields, bits }
+    }
+
+    pub fn write_record(fields: &Fields, bytes: &mut [u8]) -> Writing {
+        let mut bits = usize::MAX;
+        let answer = unsafe {
+            claspotter_write_record(
+                fields.variant,
+                fields.order,
+                fields.window,
+                fields.state,
+                fields.flag,
+                fields.shift,
+                fields.bias,
+                fields.weights.as_ptr(),
+                fields.weights.len(),
+                bytes.as_mut_ptr(),
+                bytes.len(),
+                &mut bits,
+            )
+        };
+        Writing { answer, bits }
+    }
+}
+
+#[cfg(not(port_record))]
+mod record {
+    use super::*;
+
+    pub fn read_record(_: &[u8], _: bool) -> Reading {
+        unreachable!("not exported")
+    }
+
+    pub fn write_record(_: &Fields, _: &mut [u8]) -> Writing {
+        unreachable!("not exported")
+    }
+}
+
+pub use record::{read_record, write_record};
