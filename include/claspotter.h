@@ -13,7 +13,7 @@
  *   1  the order is 0 or above 32; at the order-6 way, it is not 6
  *   2  the shift is A or more; A is 16, 32, 64 for samples of 8, 16, 32 bits
  *   3  |bias| + M * (sum of the |weights|) is above 2^(A-1)-1, M being the greatest sample
- *   4  the weights, or the places of the state, number other than the order
+ *   4  the weights, or the places of the state, number other than the order; a byte length is no whole number of entries
  *   5  fewer samples than the order are to be encoded
  *
  * Tests run in the order 1, 2, 4, 3, 5.
@@ -67,6 +67,33 @@ uint32_t claspotter_decode_order_6_u16(size_t order, uint32_t shift, int64_t bia
     uint16_t *state, size_t state_len, uint16_t *piece, size_t piece_len);
 uint32_t claspotter_decode_order_6_u32(size_t order, uint32_t shift, int64_t bias, const int32_t *weights, size_t weights_len,
     uint32_t *state, size_t state_len, uint32_t *piece, size_t piece_len);
+
+/* The same over bytes, for callers that hold no aligned slices: weights of 4 bytes, samples, residuals and states of W/8 bytes an
+ * entry, little-endian; lengths are in bytes. A length that is no whole number of entries is refused with 4, in that test's turn. */
+uint32_t claspotter_encode_bytes_8(size_t order, uint32_t shift, int64_t bias, const uint8_t *weights, size_t weights_len,
+    uint8_t *samples, size_t samples_len, uint8_t *state, size_t state_len);
+uint32_t claspotter_encode_bytes_16(size_t order, uint32_t shift, int64_t bias, const uint8_t *weights, size_t weights_len,
+    uint8_t *samples, size_t samples_len, uint8_t *state, size_t state_len);
+uint32_t claspotter_encode_bytes_32(size_t order, uint32_t shift, int64_t bias, const uint8_t *weights, size_t weights_len,
+    uint8_t *samples, size_t samples_len, uint8_t *state, size_t state_len);
+uint32_t claspotter_decode_bytes_8(size_t order, uint32_t shift, int64_t bias, const uint8_t *weights, size_t weights_len,
+    uint8_t *state, size_t state_len, uint8_t *piece, size_t piece_len);
+uint32_t claspotter_decode_bytes_16(size_t order, uint32_t shift, int64_t bias, const uint8_t *weights, size_t weights_len,
+    uint8_t *state, size_t state_len, uint8_t *piece, size_t piece_len);
+uint32_t claspotter_decode_bytes_32(size_t order, uint32_t shift, int64_t bias, const uint8_t *weights, size_t weights_len,
+    uint8_t *state, size_t state_len, uint8_t *piece, size_t piece_len);
+uint32_t claspotter_decode_general_bytes_8(size_t order, uint32_t shift, int64_t bias, const uint8_t *weights, size_t weights_len,
+    uint8_t *state, size_t state_len, uint8_t *piece, size_t piece_len);
+uint32_t claspotter_decode_general_bytes_16(size_t order, uint32_t shift, int64_t bias, const uint8_t *weights, size_t weights_len,
+    uint8_t *state, size_t state_len, uint8_t *piece, size_t piece_len);
+uint32_t claspotter_decode_general_bytes_32(size_t order, uint32_t shift, int64_t bias, const uint8_t *weights, size_t weights_len,
+    uint8_t *state, size_t state_len, uint8_t *piece, size_t piece_len);
+uint32_t claspotter_decode_order_6_bytes_8(size_t order, uint32_t shift, int64_t bias, const uint8_t *weights, size_t weights_len,
+    uint8_t *state, size_t state_len, uint8_t *piece, size_t piece_len);
+uint32_t claspotter_decode_order_6_bytes_16(size_t order, uint32_t shift, int64_t bias, const uint8_t *weights, size_t weights_len,
+    uint8_t *state, size_t state_len, uint8_t *piece, size_t piece_len);
+uint32_t claspotter_decode_order_6_bytes_32(size_t order, uint32_t shift, int64_t bias, const uint8_t *weights, size_t weights_len,
+    uint8_t *state, size_t state_len, uint8_t *piece, size_t piece_len);
 
 #ifdef __cplusplus
 }

@@ -8,6 +8,7 @@ use Rattle.kinds.specs.declared.Answer.{Answer}
 use Rattle.kinds.specs.Answers.{whenDone}
 use Rattle.rule.specs.Coding.{encodedBuffer, decodedPiece, newState}
 use Rattle.rule.specs.Refusals.{Config, predictor}
+use Rattle.bytewise.specs.Bytes.{samplesIn, samplesBytes, weightsIn}
 
 abbrev pub configOf : ℕ → ℕ → ℤ → List ℤ → Config
 configOf order shift bias weights = record { order = order; shift = shift; bias = bias; weights = weights }
@@ -25,3 +26,21 @@ pieceAfter W c a state piece = whenDone a (decodedPiece W (c .order) (predictor 
 
 abbrev pub stateAfter : ℕ → Config → Answer → List ℕ → List ℕ → List ℕ
 stateAfter W c a state piece = whenDone a (newState W (c .order) (predictor W c) state piece) state
+
+-- ---- the same over bytes, through the entries
+abbrev pub bytesConfig : ℕ → ℕ → ℤ → List ℕ → Config
+bytesConfig order shift bias weights = configOf order shift bias (weightsIn weights)
+
+abbrev pub samplesBytesAfter : ℕ → Config → Answer → List ℕ → List ℕ
+samplesBytesAfter W c a samples = whenDone a (samplesBytes W (encodedBuffer W (c .order) (predictor W c) (samplesIn W samples))) samples
+
+abbrev pub savedBytesAfter : ℕ → Config → Answer → List ℕ → List ℕ → List ℕ
+savedBytesAfter W c a samples state = whenDone a (samplesBytes W (take (c .order) (samplesIn W samples))) state
+
+abbrev pub pieceBytesAfter : ℕ → Config → Answer → List ℕ → List ℕ → List ℕ
+pieceBytesAfter W c a state piece =
+    whenDone a (samplesBytes W (decodedPiece W (c .order) (predictor W c) (samplesIn W state) (samplesIn W piece))) piece
+
+abbrev pub stateBytesAfter : ℕ → Config → Answer → List ℕ → List ℕ → List ℕ
+stateBytesAfter W c a state piece =
+    whenDone a (samplesBytes W (newState W (c .order) (predictor W c) (samplesIn W state) (samplesIn W piece))) state
