@@ -1,7 +1,7 @@
 #!/usr/bin/env python3
 """Prints what the program record_vectors must print, from document 01's section on the delta record alone.
 
-usage: record_vectors.py > expected; compare with crates/record_vectors/stdout
+usage: models/record.py > expected; compare with crates/record_vectors/stdout
 
 A record is a tuple: ("nothing",), ("consecutive", order, flag), ("lookback", window, state, flag)
 or ("conv1", shift, bias, order), beside it a list of 32 weights.
