@@ -298,21 +298,22 @@ mod record {
             variants: bool,
             variant: *mut u32,
             order: *mut usize,
-            window: *mut u32,
-            state: *mut u32,
-            flag: *mut u32,
-            shift: *mut u32,
+            window_n_log: *mut u32,
+            state_n_log: *mut u32,
+            secondary_uses_delta: *mut u32,
+            quantization: *mut u32,
             bias: *mut i64,
+            weights: *mut i32,
+            weights_len: usize,
             bits: *mut usize,
         ) -> u32;
-        fn claspotter_read_record_weight(bytes: *const u8, bytes_len: usize, variants: bool, place: usize) -> i32;
         fn claspotter_write_record(
             variant: u32,
             order: usize,
-            window: u32,
-            state: u32,
-            flag: bool,
-            shift: u32,
+            window_n_log: u32,
+            state_n_log: u32,
+            secondary_uses_delta: bool,
+            quantization: u32,
             bias: i64,
             weights: *const i32,
             weights_len: usize,
@@ -322,32 +323,34 @@ mod record {
         ) -> u32;
     }
 
-    pub fn read_record(bytes: &[u8], variants: bool) -> Reading {
-        let mut fields = Fields::default();
-        let (mut flag, mut bits) = (u32::MAX, usize::MAX);
+    /// The record's weights fill the lent slice; those of the fields are 0. Every number that is given out holds something before.
+    pub fn read_record(bytes: &[u8], variants: bool, weights: &mut [i32]) -> Reading {
+        let (mut variant, mut order, mut window, mut state) = (u32::MAX, usize::MAX, u32::MAX, u32::MAX);
+        let (mut flag, mut shift, mut bias, mut bits) = (u32::MAX, u32::MAX, i64::MAX, usize::MAX);
         let answer = unsafe {
             claspotter_read_record(
                 bytes.as_ptr(),
                 bytes.len(),
                 variants,
-                &mut fields.variant,
-                &mut fields.order,
-                &mut fields.window,
-                &mut fields.state,
+                &mut variant,
+                &mut order,
+                &mut window,
+                &mut state,
                 &mut flag,
-                &mut fields.shift,
-                &mut fields.bias,
+                &mut shift,
+                &mut bias,
+                weights.as_mut_ptr(),
+                weights.len(),
                 &mut bits,
             )
         };
-        fields.flag = flag != 0;
-        for (place, weight) in fields.weights.iter_mut().enumerate() {
-            *weight = unsafe { claspotter_read_record_weight(bytes.as_ptr(), bytes.len(), variants, place) };
-        }
+        assert!(flag <= 1, "a flag of {flag}");
+        let fields = Fields { variant, order, window, state, flag: flag == 1, shift, bias, ..Fields::default() };
         Reading { answer, fields, bits }
     }
 
-    pub fn write_record(fields: &Fields, bytes: &mut [u8]) -> Writing {
+    /// Writes with the lent weights; those of the fields are not looked at.
+    pub fn write_record(fields: &Fields, weights: &[i32], bytes: &mut [u8]) -> Writing {
         let mut bits = usize::MAX;
         let answer = unsafe {
             claspotter_write_record(
@@ -358,8 +361,8 @@ mod record {
                 fields.flag,
                 fields.shift,
                 fields.bias,
-                fields.weights.as_ptr(),
-                fields.weights.len(),
+                weights.as_ptr(),
+                weights.len(),
                 bytes.as_mut_ptr(),
                 bytes.len(),
                 &mut bits,
@@ -373,11 +376,11 @@ mod record {
 mod record {
     use super::*;
 
-    pub fn read_record(_: &[u8], _: bool) -> Reading {
+    pub fn read_record(_: &[u8], _: bool, _: &mut [i32]) -> Reading {
         unreachable!("not exported")
     }
 
-    pub fn write_record(_: &Fields, _: &mut [u8]) -> Writing {
+    pub fn write_record(_: &Fields, _: &[i32], _: &mut [u8]) -> Writing {
         unreachable!("not exported")
     }
 }

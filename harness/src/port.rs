@@ -61,12 +61,12 @@ pub trait Port {
         Quantised { answer, shift, bias }
     }
 
-    fn read_record(&self, bytes: &[u8], variants: bool) -> Reading {
-        crate::boundary::read_record(bytes, variants)
+    fn read_record(&self, bytes: &[u8], variants: bool, weights: &mut [i32]) -> Reading {
+        crate::boundary::read_record(bytes, variants, weights)
     }
 
-    fn write_record(&self, fields: &Fields, bytes: &mut [u8]) -> Writing {
-        crate::boundary::write_record(fields, bytes)
+    fn write_record(&self, fields: &Fields, weights: &[i32], bytes: &mut [u8]) -> Writing {
+        crate::boundary::write_record(fields, weights, bytes)
     }
 }
 

@@ -57,8 +57,23 @@ pub fn read(bytes: &[u8], variants: bool) -> Reading {
     let mut bits = Bits { bytes, at: 0 };
     match read_fields(&mut bits, variants) {
         Ok(fields) => Reading { answer: 0, fields, bits: bits.at },
-        Err(answer) => Reading { answer, fields: Fields::default(), bits: 0 },
+        Err(answer) => Reading::refused(answer),
     }
+}
+
+impl Reading {
+    fn refused(answer: u32) -> Self {
+        Reading { answer, fields: Fields::default(), bits: 0 }
+    }
+}
+
+/// What reading into lent weights gives, and the weights afterwards: the record's array, which has 32 places, or what was there. The
+/// weights of the fields are 0.
+pub fn read_into(bytes: &[u8], variants: bool, lent: &[i32]) -> (Reading, Vec<i32>) {
+    let mut reading = if lent.len() == 32 { read(bytes, variants) } else { Reading::refused(4) };
+    let weights = std::mem::take(&mut reading.fields.weights);
+    let after = if reading.answer == 0 { weights.to_vec() } else { lent.to_vec() };
+    (reading, after)
 }
 
 fn read_fields(bits: &mut Bits, variants: bool) -> Result<Fields, u32> {
@@ -99,8 +114,8 @@ fn read_fields(bits: &mut Bits, variants: bool) -> Result<Fields, u32> {
     Ok(fields)
 }
 
-/// What writing gives, by document 01: the answer, the bits, and the whole buffer afterwards.
-pub fn written(fields: &Fields, buffer: &[u8]) -> (Writing, Vec<u8>) {
+/// What writing with these weights gives, by document 01: the answer, the bits, and the whole buffer afterwards.
+pub fn written(fields: &Fields, weights: &[i32], buffer: &[u8]) -> (Writing, Vec<u8>) {
     let refused = |answer| (Writing { answer, bits: 0 }, buffer.to_vec());
     let mut list: Vec<(u128, usize)> = vec![(fields.variant as u128, 4)];
     match fields.variant {
@@ -120,15 +135,19 @@ pub fn written(fields: &Fields, buffer: &[u8]) -> (Writing, Vec<u8>) {
             }
             list.extend([(fields.window as u128 - 1, 5), (fields.state as u128, 4), (fields.flag as u128, 1)]);
         }
-        _ => {
+        3 => {
             if fields.order == 0 || fields.order > 32 {
                 return refused(1);
+            }
+            if weights.len() != fields.order {
+                return refused(4);
             }
             list.push((fields.shift as u128, 5));
             list.push(((fields.bias as i128 + (1i128 << 63)) as u128, 64));
             list.push((fields.order as u128 - 1, 5));
-            list.extend(fields.weights[..fields.order].iter().map(|&w| ((w as i64 + (1i64 << 31)) as u128, 32)));
+            list.extend(weights.iter().map(|&w| ((w as i64 + (1i64 << 31)) as u128, 32)));
         }
+        _ => return refused(8),
     }
     if list.iter().any(|&(value, width)| value >> width != 0) {
         return refused(10);
@@ -151,6 +170,11 @@ pub fn written(fields: &Fields, buffer: &[u8]) -> (Writing, Vec<u8>) {
 }
 
 impl Fields {
+    /// As many weights as the order says, where there are so many.
+    pub fn own_weights(&self) -> &[i32] {
+        &self.weights[..self.order.min(32)]
+    }
+
     /// The same record as the Rust holds it. Orders above 32 have more weights than places: those are 0.
     pub fn to_rust(&self) -> Record {
         match self.variant {
@@ -180,14 +204,17 @@ impl Fields {
     }
 }
 
+/// What lent weights hold before a record is read into them.
+const LENT: [i32; 32] = [i32::MIN; 32];
+
 /// Every buffer of no, one and two bytes, in both forms.
 pub fn all_short<P: Port>(port: &P, tally: &mut Tally) {
     for variants in [false, true] {
-        compare_read(port, tally, &[], variants);
+        compare_read(port, tally, &[], variants, &LENT);
         for a in 0..=255 {
-            compare_read(port, tally, &[a], variants);
+            compare_read(port, tally, &[a], variants, &LENT);
             for b in 0..=255 {
-                compare_read(port, tally, &[a, b], variants);
+                compare_read(port, tally, &[a, b], variants, &LENT);
             }
         }
     }
@@ -207,14 +234,25 @@ pub fn round<P: Port>(port: &P, s: &mut Source, tally: &mut Tally) {
         2 => needed,
         _ => needed + s.index(3),
     };
-    compare_read(port, tally, &bytes[..len.min(142)], !s.one_in(8));
+    let lent = if s.one_in(8) { any_number(s, &LENT) } else { LENT.to_vec() };
+    compare_read(port, tally, &bytes[..len.min(142)], !s.one_in(8), &lent);
 
-    let fields = fields(s);
+    let mut fields = fields(s);
+    if s.one_in(16) {
+        fields.variant = s.pick(&[4, 7, 15, 16, 19, u32::MAX]);
+    }
+    let lent = if s.one_in(8) { any_number(s, &fields.weights) } else { fields.own_weights().to_vec() };
     let buffer: Vec<u8> = (0..s.pick(&[0, 1, 2, 3, 13, 14, 15, 137, 138, 139, 142])).map(|_| s.number() as u8).collect();
-    compare_write(port, tally, &fields, &buffer);
+    compare_write(port, tally, &fields, &lent, &buffer);
 }
 
-fn compare_read<P: Port>(port: &P, tally: &mut Tally, bytes: &[u8], variants: bool) {
+/// Some number of these weights, seldom the right one; from the start again where there are too few.
+fn any_number(s: &mut Source, weights: &[i32; 32]) -> Vec<i32> {
+    let count = s.pick(&[0, 1, 2, 31, 32, 33, 64]);
+    weights.iter().copied().cycle().take(count).collect()
+}
+
+fn compare_read<P: Port>(port: &P, tally: &mut Tally, bytes: &[u8], variants: bool, lent: &[i32]) {
     let right = read(bytes, variants);
     let rust = unless_it_panics(|| doors::read_record(bytes, variants));
     let agrees = match (&rust, right.answer) {
@@ -225,13 +263,17 @@ fn compare_read<P: Port>(port: &P, tally: &mut Tally, bytes: &[u8], variants: bo
         _ => false,
     };
     tally.holds("the Rust against the model", agrees, || format!("read {bytes:?} {variants}: {rust:?}, {right:?}"));
-    let port = port.read_record(bytes, variants);
-    tally.call("read record");
-    tally.holds("read record", port == right, || format!("{bytes:?} {variants}: right {right:?}, port {port:?}"));
+    let (right, after) = read_into(bytes, variants, lent);
+    let mut weights = lent.to_vec();
+    let port = port.read_record(bytes, variants, &mut weights);
+    tally.call(if right.answer == 0 { "read record" } else { "read record, refused" });
+    tally.holds("read record", port == right && weights == after, || {
+        format!("{bytes:?} {variants} into {lent:?}: right {right:?} {after:?}, port {port:?} {weights:?}")
+    });
 }
 
-fn compare_write<P: Port>(port: &P, tally: &mut Tally, fields: &Fields, buffer: &[u8]) {
-    let (right, after) = written(fields, buffer);
+fn compare_write<P: Port>(port: &P, tally: &mut Tally, fields: &Fields, weights: &[i32], buffer: &[u8]) {
+    let (right, after) = written(fields, weights, buffer);
     let rust = unless_it_panics(|| doors::write_record(&fields.to_rust()));
     match right.answer {
         0 => {
@@ -240,15 +282,15 @@ fn compare_write<P: Port>(port: &P, tally: &mut Tally, fields: &Fields, buffer: 
             });
             tally.holds("the Rust against the model", agrees, || format!("write {fields:?}: {rust:?}, {right:?} {after:?}"));
         }
-        // A growing buffer has always room.
-        11 => {}
+        // A growing buffer has always room; a Rust record has a variant, and its weights' number is its order.
+        4 | 8 | 11 => {}
         _ => tally.listed(differences::WRITTEN_ANYWAY),
     }
     let mut lent = buffer.to_vec();
-    let port = port.write_record(fields, &mut lent);
-    tally.call("write record");
+    let port = port.write_record(fields, weights, &mut lent);
+    tally.call(if right.answer == 0 { "write record" } else { "write record, refused" });
     tally.holds("write record", port == right && lent == after, || {
-        format!("{fields:?} into {buffer:?}: right {right:?} {after:?}, port {port:?} {lent:?}")
+        format!("{fields:?} {weights:?} into {buffer:?}: right {right:?} {after:?}, port {port:?} {lent:?}")
     });
 }
 

@@ -117,7 +117,7 @@ fn writing(s: &mut Source, text: &mut String) {
         if fields.variant == 3 {
             fields.order = 1 + s.index(4);
         }
-        if records::written(&fields, &[0; 142]).0.answer != 0 {
+        if records::written(&fields, fields.own_weights(), &[0; 142]).0.answer != 0 {
             continue;
         }
         let (bytes, bits) = doors::write_record(&fields.to_rust());

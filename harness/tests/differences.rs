@@ -174,7 +174,7 @@ fn conv1(order: usize, shift: u32) -> Fields {
 /// The port refuses with this number and writes nothing; the Rust writes these bytes first.
 fn written_anyway(fields: Fields, answer: u32, rust: &[u8]) {
     let mut bytes = [0xFF; 142];
-    let writing = Archive.write_record(&fields, &mut bytes);
+    let writing = Archive.write_record(&fields, fields.own_weights(), &mut bytes);
     assert_eq!((writing.answer, writing.bits, bytes), (answer, 0, [0xFF; 142]));
     let (written, _) = unless_it_panics(|| doors::write_record(&fields.to_rust())).expect("the Rust writes");
     assert_eq!(written[..rust.len()], *rust, "{fields:?}");
@@ -211,7 +211,7 @@ fn the_rust_subtracts_below_0_when_it_writes() {
     }
     for (fields, answer, place, byte) in [(lookback(0, 0), 10, 1, 0xFF), (conv1(0, 0), 1, 9, 0xFF)] {
         let mut bytes = [0xFF; 142];
-        assert_eq!(Archive.write_record(&fields, &mut bytes).answer, answer);
+        assert_eq!(Archive.write_record(&fields, fields.own_weights(), &mut bytes).answer, answer);
         let rust = unless_it_panics(|| doors::write_record(&fields.to_rust()));
         assert_eq!(rust.is_none(), CHECKED, "{fields:?}");
         if let Some((written, _)) = rust {
@@ -231,7 +231,7 @@ fn the_reader_tells_refusals_apart_that_are_one_in_the_rust() {
         (&[0x02], 7, doors::ReadError::InsufficientData),
         (&[], 7, doors::ReadError::InsufficientData),
     ] {
-        assert_eq!(Archive.read_record(bytes, true).answer, answer);
+        assert_eq!(Archive.read_record(bytes, true, &mut [0; 32]).answer, answer);
         assert_eq!(doors::read_record(bytes, true), Err(rust));
     }
 }

@@ -125,20 +125,55 @@ struct RecordFaults {
     bits: bool,
 }
 impl Port for RecordFaults {
-    fn read_record(&self, bytes: &[u8], variants: bool) -> Reading {
-        let mut reading = Archive.read_record(bytes, variants);
+    fn read_record(&self, bytes: &[u8], variants: bool, weights: &mut [i32]) -> Reading {
+        let mut reading = Archive.read_record(bytes, variants, weights);
         if self.bits && reading.bits == 14 {
             reading.bits = 16;
         }
         reading
     }
 
-    fn write_record(&self, fields: &Fields, bytes: &mut [u8]) -> Writing {
-        let writing = Archive.write_record(fields, bytes);
+    fn write_record(&self, fields: &Fields, weights: &[i32], bytes: &mut [u8]) -> Writing {
+        let writing = Archive.write_record(fields, weights, bytes);
         if let (false, Some(behind)) = (self.bits, bytes.get_mut(writing.bits.div_ceil(8))) {
             *behind = 0;
         }
         writing
+    }
+}
+
+/// Weights of any number are taken: a reader fills what it is lent, and a writer makes up what it misses.
+struct AnyNumberOfWeights {
+    read: bool,
+}
+impl Port for AnyNumberOfWeights {
+    fn read_record(&self, bytes: &[u8], variants: bool, weights: &mut [i32]) -> Reading {
+        if !self.read {
+            return Archive.read_record(bytes, variants, weights);
+        }
+        let mut array = [0; 32];
+        let reading = Archive.read_record(bytes, variants, &mut array);
+        if reading.answer == 0 {
+            weights.iter_mut().zip(array).for_each(|(lent, weight)| *lent = weight);
+        }
+        reading
+    }
+
+    fn write_record(&self, fields: &Fields, weights: &[i32], bytes: &mut [u8]) -> Writing {
+        let mut own = weights.to_vec();
+        if !self.read {
+            own.resize(fields.order.min(32), 0);
+        }
+        Archive.write_record(fields, &own, bytes)
+    }
+}
+
+/// A variant that is unknown is written as nothing.
+struct UnknownAsNothing;
+impl Port for UnknownAsNothing {
+    fn write_record(&self, fields: &Fields, weights: &[i32], bytes: &mut [u8]) -> Writing {
+        let known = if fields.variant > 3 { Fields::default() } else { fields.clone() };
+        Archive.write_record(&known, weights, bytes)
     }
 }
 
@@ -147,6 +182,9 @@ fn record_faults_are_caught() {
     if !compare::left_out().contains(&"records") {
         assert!(caught(&RecordFaults { bits: true }));
         assert!(caught(&RecordFaults { bits: false }));
+        assert!(caught(&AnyNumberOfWeights { read: true }));
+        assert!(caught(&AnyNumberOfWeights { read: false }));
+        assert!(caught(&UnknownAsNothing));
     }
 }
 

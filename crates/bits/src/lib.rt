@@ -1,6 +1,6 @@
 // Bit fields of a byte slice: bit 0 is the least significant bit of the first byte, and a field's first bit is its least significant.
 ghost use mathlib.Core.Path.{_≡_};
-ghost use Prim.Native.Nat.{ℕ, _+_, _*_, _^_, _≤_, _<_};
+ghost use Prim.Native.Nat.{_+_, _*_, _^_, _≤_, _<_};
 ghost use lib.ListN.{length};
 ghost use Rattle.bits.specs.Fields.{replaced, bitAt, withBit, fieldAt, withField, found};
 

@@ -12,6 +12,7 @@ ghost use Rattle.rule.specs.Prediction.{admitted};
 ghost use Rattle.rule.specs.Refusals.{codingRefusal, encodingRefusal, orderSixRefusal};
 ghost use Rattle.boundary.specs.Calls.{configOf, samplesAfter, savedAfter, pieceAfter, stateAfter, bytesConfig, samplesBytesAfter, savedBytesAfter, pieceBytesAfter, stateBytesAfter};
 ghost use Rattle.bytewise.specs.Bytes.{ragged, codingBytes, orderSixBytes, encodingBytes};
+ghost use Rattle.quantising_lent.specs.Calls.{quantisedFrom, filledFrom};
 
 // The accumulator rule alone: 0 where it holds, 3 where it fails.
 #[no_mangle]
@@ -62,7 +63,7 @@ pub extern "C" fn claspotter_decode_u16(
     ensures { λ _. ⌜ now (piece .exit) ≡ pieceAfter 16 (configOf order shift bias (now (weights .entry))) (codingRefusal 16 (configOf order shift bias (now (weights .entry))) (length (now (state .entry)))) (now (state .entry)) (now (piece .entry)) ⌝ }
     ensures { λ _. ⌜ now (state .exit) ≡ stateAfter 16 (configOf order shift bias (now (weights .entry))) (codingRefusal 16 (configOf order shift bias (now (weights .entry))) (length (now (state .entry)))) (now (state .entry)) (now (piece .entry)) ⌝ }
 {
-    kinds::number(lending::w16::decode(Order(order), Shift(shift), bias, weights, state, piece))
+    kinds::number(conv1::w16::decode_into(Order(order), Shift(shift), bias, weights, state, piece))
 }
 
 // The same by the general way, at order 6 too.
@@ -79,7 +80,7 @@ pub extern "C" fn claspotter_decode_general_u16(
     ensures { λ _. ⌜ now (piece .exit) ≡ pieceAfter 16 (configOf order shift bias (now (weights .entry))) (codingRefusal 16 (configOf order shift bias (now (weights .entry))) (length (now (state .entry)))) (now (state .entry)) (now (piece .entry)) ⌝ }
     ensures { λ _. ⌜ now (state .exit) ≡ stateAfter 16 (configOf order shift bias (now (weights .entry))) (codingRefusal 16 (configOf order shift bias (now (weights .entry))) (length (now (state .entry)))) (now (state .entry)) (now (piece .entry)) ⌝ }
 {
-    kinds::number(lending::w16::decode_general(
+    kinds::number(decoding::w16::decode_into(
         Order(order),
         Shift(shift),
         bias,
@@ -103,7 +104,7 @@ pub extern "C" fn claspotter_decode_order_6_u16(
     ensures { λ _. ⌜ now (piece .exit) ≡ pieceAfter 16 (configOf order shift bias (now (weights .entry))) (orderSixRefusal 16 (configOf order shift bias (now (weights .entry))) (length (now (state .entry)))) (now (state .entry)) (now (piece .entry)) ⌝ }
     ensures { λ _. ⌜ now (state .exit) ≡ stateAfter 16 (configOf order shift bias (now (weights .entry))) (orderSixRefusal 16 (configOf order shift bias (now (weights .entry))) (length (now (state .entry)))) (now (state .entry)) (now (piece .entry)) ⌝ }
 {
-    kinds::number(lending::w16::decode_order_6(
+    kinds::number(order_six::w16::decode_order_6_into(
         Order(order),
         Shift(shift),
         bias,
@@ -193,4 +194,35 @@ pub extern "C" fn claspotter_decode_order_6_bytes_16(
         state,
         piece,
     ))
+}
+
+// Float weights to a configuration: its weights fill the lent slice, its shift and bias go to the lent numbers. Beside a refusal both
+// are 0.
+#[no_mangle]
+pub extern "C" fn claspotter_quantise_16(
+    order: usize,
+    fitted: &[f64],
+    centred_bias: f64,
+    centre: u16,
+    weights: &mut [i32],
+    shift: &mut u32,
+    bias: &mut i64,
+) -> u32
+    ensures { λ r. ⌜ r ≡ numberOf (quantisedFrom 16 order (now (fitted .entry)) centre «centred_bias» (now (weights .entry)) .answer) ⌝ }
+    ensures { λ _. ⌜ now (weights .exit) ≡ filledFrom 16 order (now (fitted .entry)) centre «centred_bias» (now (weights .entry)) ⌝ }
+    ensures { λ _. ⌜ now (shift .exit) ≡ quantisedFrom 16 order (now (fitted .entry)) centre «centred_bias» (now (weights .entry)) .shift .0 ⌝ }
+    ensures { λ _. ⌜ now (bias .exit) ≡ quantisedFrom 16 order (now (fitted .entry)) centre «centred_bias» (now (weights .entry)) .bias ⌝ }
+{
+    let quantised = quantising_lent::w16::quantise(
+        Order(order),
+        fitted,
+        centred_bias,
+        centre,
+        weights,
+    );
+    let answer = quantised.answer;
+    let whole_bias = quantised.bias;
+    *shift = quantised.shift.0;
+    *bias = whole_bias;
+    kinds::number(answer)
 }

@@ -12,6 +12,7 @@ ghost use Rattle.rule.specs.Prediction.{admitted};
 ghost use Rattle.rule.specs.Refusals.{codingRefusal, encodingRefusal, orderSixRefusal};
 ghost use Rattle.boundary.specs.Calls.{configOf, samplesAfter, savedAfter, pieceAfter, stateAfter, bytesConfig, samplesBytesAfter, savedBytesAfter, pieceBytesAfter, stateBytesAfter};
 ghost use Rattle.bytewise.specs.Bytes.{ragged, codingBytes, orderSixBytes, encodingBytes};
+ghost use Rattle.quantising_lent.specs.Calls.{quantisedFrom, filledFrom};
 
 // The accumulator rule alone: 0 where it holds, 3 where it fails.
 #[no_mangle]
@@ -38,7 +39,7 @@ pub extern "C" fn claspotter_encode_u8(
     ensures { λ _. ⌜ now (samples .exit) ≡ samplesAfter 8 (configOf order shift bias (now (weights .entry))) (encodingRefusal 8 (configOf order shift bias (now (weights .entry))) (length (now (state .entry))) (length (now (samples .entry)))) (now (samples .entry)) ⌝ }
     ensures { λ _. ⌜ now (state .exit) ≡ savedAfter (configOf order shift bias (now (weights .entry))) (encodingRefusal 8 (configOf order shift bias (now (weights .entry))) (length (now (state .entry))) (length (now (samples .entry)))) (now (samples .entry)) (now (state .entry)) ⌝ }
 {
-    kinds::number(encoding::w8::encode_into(
+    kinds::number(width_8::encoding_8::encode_into(
         Order(order),
         Shift(shift),
         bias,
@@ -62,7 +63,14 @@ pub extern "C" fn claspotter_decode_u8(
     ensures { λ _. ⌜ now (piece .exit) ≡ pieceAfter 8 (configOf order shift bias (now (weights .entry))) (codingRefusal 8 (configOf order shift bias (now (weights .entry))) (length (now (state .entry)))) (now (state .entry)) (now (piece .entry)) ⌝ }
     ensures { λ _. ⌜ now (state .exit) ≡ stateAfter 8 (configOf order shift bias (now (weights .entry))) (codingRefusal 8 (configOf order shift bias (now (weights .entry))) (length (now (state .entry)))) (now (state .entry)) (now (piece .entry)) ⌝ }
 {
-    kinds::number(lending::w8::decode(Order(order), Shift(shift), bias, weights, state, piece))
+    kinds::number(width_8::conv1_8::decode_into(
+        Order(order),
+        Shift(shift),
+        bias,
+        weights,
+        state,
+        piece,
+    ))
 }
 
 // The same by the general way, at order 6 too.
@@ -79,7 +87,7 @@ pub extern "C" fn claspotter_decode_general_u8(
     ensures { λ _. ⌜ now (piece .exit) ≡ pieceAfter 8 (configOf order shift bias (now (weights .entry))) (codingRefusal 8 (configOf order shift bias (now (weights .entry))) (length (now (state .entry)))) (now (state .entry)) (now (piece .entry)) ⌝ }
     ensures { λ _. ⌜ now (state .exit) ≡ stateAfter 8 (configOf order shift bias (now (weights .entry))) (codingRefusal 8 (configOf order shift bias (now (weights .entry))) (length (now (state .entry)))) (now (state .entry)) (now (piece .entry)) ⌝ }
 {
-    kinds::number(lending::w8::decode_general(
+    kinds::number(width_8::decoding_8::decode_into(
         Order(order),
         Shift(shift),
         bias,
@@ -103,7 +111,7 @@ pub extern "C" fn claspotter_decode_order_6_u8(
     ensures { λ _. ⌜ now (piece .exit) ≡ pieceAfter 8 (configOf order shift bias (now (weights .entry))) (orderSixRefusal 8 (configOf order shift bias (now (weights .entry))) (length (now (state .entry)))) (now (state .entry)) (now (piece .entry)) ⌝ }
     ensures { λ _. ⌜ now (state .exit) ≡ stateAfter 8 (configOf order shift bias (now (weights .entry))) (orderSixRefusal 8 (configOf order shift bias (now (weights .entry))) (length (now (state .entry)))) (now (state .entry)) (now (piece .entry)) ⌝ }
 {
-    kinds::number(lending::w8::decode_order_6(
+    kinds::number(width_8::order_six_8::decode_order_6_into(
         Order(order),
         Shift(shift),
         bias,
@@ -127,7 +135,14 @@ pub extern "C" fn claspotter_encode_bytes_8(
     ensures { λ _. ⌜ now (samples .exit) ≡ samplesBytesAfter 8 (bytesConfig order shift bias (now (weights .entry))) (encodingBytes 8 (bytesConfig order shift bias (now (weights .entry))) (ragged 8 (now (weights .entry)) (now (state .entry)) (now (samples .entry))) (now (state .entry)) (now (samples .entry))) (now (samples .entry)) ⌝ }
     ensures { λ _. ⌜ now (state .exit) ≡ savedBytesAfter 8 (bytesConfig order shift bias (now (weights .entry))) (encodingBytes 8 (bytesConfig order shift bias (now (weights .entry))) (ragged 8 (now (weights .entry)) (now (state .entry)) (now (samples .entry))) (now (state .entry)) (now (samples .entry))) (now (samples .entry)) (now (state .entry)) ⌝ }
 {
-    kinds::number(bytewise::w8::encode(Order(order), Shift(shift), bias, weights, samples, state))
+    kinds::number(width_8::bytewise_8::encode(
+        Order(order),
+        Shift(shift),
+        bias,
+        weights,
+        samples,
+        state,
+    ))
 }
 
 // `claspotter_decode_u8` over bytes.
@@ -144,7 +159,14 @@ pub extern "C" fn claspotter_decode_bytes_8(
     ensures { λ _. ⌜ now (piece .exit) ≡ pieceBytesAfter 8 (bytesConfig order shift bias (now (weights .entry))) (codingBytes 8 (bytesConfig order shift bias (now (weights .entry))) (ragged 8 (now (weights .entry)) (now (state .entry)) (now (piece .entry))) (now (state .entry))) (now (state .entry)) (now (piece .entry)) ⌝ }
     ensures { λ _. ⌜ now (state .exit) ≡ stateBytesAfter 8 (bytesConfig order shift bias (now (weights .entry))) (codingBytes 8 (bytesConfig order shift bias (now (weights .entry))) (ragged 8 (now (weights .entry)) (now (state .entry)) (now (piece .entry))) (now (state .entry))) (now (state .entry)) (now (piece .entry)) ⌝ }
 {
-    kinds::number(bytewise::w8::decode(Order(order), Shift(shift), bias, weights, state, piece))
+    kinds::number(width_8::bytewise_8::decode(
+        Order(order),
+        Shift(shift),
+        bias,
+        weights,
+        state,
+        piece,
+    ))
 }
 
 // `claspotter_decode_general_u8` over bytes.
@@ -161,7 +183,7 @@ pub extern "C" fn claspotter_decode_general_bytes_8(
     ensures { λ _. ⌜ now (piece .exit) ≡ pieceBytesAfter 8 (bytesConfig order shift bias (now (weights .entry))) (codingBytes 8 (bytesConfig order shift bias (now (weights .entry))) (ragged 8 (now (weights .entry)) (now (state .entry)) (now (piece .entry))) (now (state .entry))) (now (state .entry)) (now (piece .entry)) ⌝ }
     ensures { λ _. ⌜ now (state .exit) ≡ stateBytesAfter 8 (bytesConfig order shift bias (now (weights .entry))) (codingBytes 8 (bytesConfig order shift bias (now (weights .entry))) (ragged 8 (now (weights .entry)) (now (state .entry)) (now (piece .entry))) (now (state .entry))) (now (state .entry)) (now (piece .entry)) ⌝ }
 {
-    kinds::number(bytewise::w8::decode_general(
+    kinds::number(width_8::bytewise_8::decode_general(
         Order(order),
         Shift(shift),
         bias,
@@ -185,7 +207,7 @@ pub extern "C" fn claspotter_decode_order_6_bytes_8(
     ensures { λ _. ⌜ now (piece .exit) ≡ pieceBytesAfter 8 (bytesConfig order shift bias (now (weights .entry))) (orderSixBytes 8 (bytesConfig order shift bias (now (weights .entry))) (ragged 8 (now (weights .entry)) (now (state .entry)) (now (piece .entry))) (now (state .entry))) (now (state .entry)) (now (piece .entry)) ⌝ }
     ensures { λ _. ⌜ now (state .exit) ≡ stateBytesAfter 8 (bytesConfig order shift bias (now (weights .entry))) (orderSixBytes 8 (bytesConfig order shift bias (now (weights .entry))) (ragged 8 (now (weights .entry)) (now (state .entry)) (now (piece .entry))) (now (state .entry))) (now (state .entry)) (now (piece .entry)) ⌝ }
 {
-    kinds::number(bytewise::w8::decode_order_6(
+    kinds::number(width_8::bytewise_8::decode_order_6(
         Order(order),
         Shift(shift),
         bias,
@@ -193,4 +215,35 @@ pub extern "C" fn claspotter_decode_order_6_bytes_8(
         state,
         piece,
     ))
+}
+
+// Float weights to a configuration: its weights fill the lent slice, its shift and bias go to the lent numbers. Beside a refusal both
+// are 0.
+#[no_mangle]
+pub extern "C" fn claspotter_quantise_8(
+    order: usize,
+    fitted: &[f64],
+    centred_bias: f64,
+    centre: u8,
+    weights: &mut [i32],
+    shift: &mut u32,
+    bias: &mut i64,
+) -> u32
+    ensures { λ r. ⌜ r ≡ numberOf (quantisedFrom 8 order (now (fitted .entry)) centre «centred_bias» (now (weights .entry)) .answer) ⌝ }
+    ensures { λ _. ⌜ now (weights .exit) ≡ filledFrom 8 order (now (fitted .entry)) centre «centred_bias» (now (weights .entry)) ⌝ }
+    ensures { λ _. ⌜ now (shift .exit) ≡ quantisedFrom 8 order (now (fitted .entry)) centre «centred_bias» (now (weights .entry)) .shift .0 ⌝ }
+    ensures { λ _. ⌜ now (bias .exit) ≡ quantisedFrom 8 order (now (fitted .entry)) centre «centred_bias» (now (weights .entry)) .bias ⌝ }
+{
+    let quantised = quantising_lent::w8::quantise(
+        Order(order),
+        fitted,
+        centred_bias,
+        centre,
+        weights,
+    );
+    let answer = quantised.answer;
+    let whole_bias = quantised.bias;
+    *shift = quantised.shift.0;
+    *bias = whole_bias;
+    kinds::number(answer)
 }

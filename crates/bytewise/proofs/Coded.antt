@@ -5,16 +5,16 @@ use mathlib.Core.Path.{_≡_, refl, sym, ap, _∙_}
 use mathlib.Core.Bool.{Bool, true, false, cond}
 use mathlib.Core.List.{List, [], _∷_, _++_, append-assoc, append-nil}
 use Prim.Native.Nat.{ℕ, zero, suc, _+_, _-_, _*_, _/_, _≤_, _<_}
-use native.Mathlib.Nat.{mul-zero, mul-add, mul-le-mul-left, mul-div-cancel-left, zero-sub, sub-zero, suc-sub-suc, add-assoc}
+use native.Mathlib.Nat.{mul-zero, mul-add, mul-le-mul-left, mul-div-cancel-left, zero-sub, sub-zero, suc-sub-suc}
 use native.Mathlib.Omega.{arith}
 use borrow.Author.Tests.{ltb-true, ltb-false, lt-ltb, le-ltb}
 use borrow.Rule.Slice.PartMut.{putMid}
 use lib.Dec.{ltb}
 use lib.ListN.{length, getD, take, drop, length-append, length-take, length-drop, drop-of-length-le, take-append-drop}
-use lib.Seq.{take-nil, take-at, drop-at, take-all, take-take, drop-drop, drop-length, drop-append-le, length-take-le, getD-take, getD-drop, ext-getD}
+use lib.Seq.{take-nil, take-at, drop-at, take-all, take-take, drop-drop, drop-append-le, length-take-le, getD-take, getD-drop, ext-getD}
 use Rattle.kinds.specs.declared.Answer.the-variants.{Done, TooFewSamples}
 use Rattle.kinds.specs.Answers.{refuse, isDone}
-use Rattle.rule.specs.Coding.{window, codedAt, encodedBuffer, toggled, residual}
+use Rattle.rule.specs.Coding.{window, codedAt, encodedBuffer}
 use Rattle.rule.specs.Refusals.{Config, codingRefusal, encodingRefusal}
 use Rattle.rule.proofs.Filling.{length-tabulate, getD-tabulate}
 use Rattle.entries.specs.Entries.{entries, bytesOfAll}

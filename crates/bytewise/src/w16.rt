@@ -5,11 +5,11 @@ use kinds::SampleCount;
 use kinds::Shift;
 use kinds::Width;
 ghost use mathlib.Core.Path.{_≡_};
-ghost use mathlib.Core.Bool.{Bool, true};
+ghost use mathlib.Core.Bool.{true};
 ghost use mathlib.Core.List.{_++_};
 ghost use Prim.Native.Nat.{_*_, _/_, _≤_};
 ghost use lib.ListN.{length, take, drop};
-ghost use Rattle.kinds.specs.Answers.{isDone, whenDone};
+ghost use Rattle.kinds.specs.Answers.{whenDone};
 ghost use Rattle.rule.specs.Coding.{encodedBuffer, decodedPiece, newState};
 ghost use Rattle.rule.specs.Refusals.{config, predictor, codingRefusal, encodingRefusal};
 ghost use Rattle.bytewise.specs.Bytes.{samplesIn, samplesBytes, weightsIn, ragged, codingBytes, orderSixBytes, encodingBytes};
@@ -34,9 +34,9 @@ fn decode_samples(
     ensures { λ _. ⌜ Decoded 16 (config order shift bias (now (weights .entry))) (now (state .entry)) (now (piece .entry)) (now (piece .exit)) (now (state .exit)) ⌝ }
 {
     if fast {
-        lending::w16::decode_order_6(order, shift, bias, weights, state, piece);
+        order_six::w16::decode_order_6_into(order, shift, bias, weights, state, piece);
     } else {
-        lending::w16::decode_general(order, shift, bias, weights, state, piece);
+        decoding::w16::decode_into(order, shift, bias, weights, state, piece);
     }
 }
 

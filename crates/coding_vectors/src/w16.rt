@@ -2,9 +2,7 @@
 use kinds::Order;
 use kinds::Shift;
 use kinds::State16;
-ghost use mathlib.Core.Path.{_≡_};
-ghost use Prim.Native.Nat.{_<_, _^_};
-ghost use lib.ListN.{length};
+ghost use Prim.Native.Nat.{_<_};
 
 // A noisy trace, always the same.
 fn fill(samples: &mut [u16]) {

@@ -2,9 +2,7 @@
 use kinds::Order;
 use kinds::Shift;
 use kinds::State32;
-ghost use mathlib.Core.Path.{_≡_};
-ghost use Prim.Native.Nat.{_<_, _^_};
-ghost use lib.ListN.{length};
+ghost use Prim.Native.Nat.{_<_};
 
 // A noisy trace, always the same.
 fn fill(samples: &mut [u32]) {
@@ -67,11 +65,11 @@ fn decode_one(
     general: bool,
 ) -> State32 {
     if general {
-        let done = decoding::w32::decode_general(order, shift, bias, weights, state, piece);
+        let done = width_32::decoding_32::decode_general(order, shift, bias, weights, state, piece);
         let after = done.state;
         return after;
     }
-    let done = conv1::w32::decode_in_place(order, shift, bias, weights, state, piece);
+    let done = width_32::conv1_32::decode_in_place(order, shift, bias, weights, state, piece);
     let after = done.state;
     after
 }
@@ -141,7 +139,7 @@ fn report(
 ) {
     fill(latents);
     crate::say_case(32, order, shift, bias, latents.len());
-    let done = encoding::w32::encode_in_place(order, shift, bias, weights, latents);
+    let done = width_32::encoding_32::encode_in_place(order, shift, bias, weights, latents);
     let answer = done.answer;
     let state = done.state;
     let saved = state.samples;

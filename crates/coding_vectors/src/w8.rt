@@ -2,9 +2,7 @@
 use kinds::Order;
 use kinds::Shift;
 use kinds::State8;
-ghost use mathlib.Core.Path.{_≡_};
-ghost use Prim.Native.Nat.{_<_, _^_};
-ghost use lib.ListN.{length};
+ghost use Prim.Native.Nat.{_<_};
 
 // A noisy trace, always the same.
 fn fill(samples: &mut [u8]) {
@@ -67,11 +65,11 @@ fn decode_one(
     general: bool,
 ) -> State8 {
     if general {
-        let done = decoding::w8::decode_general(order, shift, bias, weights, state, piece);
+        let done = width_8::decoding_8::decode_general(order, shift, bias, weights, state, piece);
         let after = done.state;
         return after;
     }
-    let done = conv1::w8::decode_in_place(order, shift, bias, weights, state, piece);
+    let done = width_8::conv1_8::decode_in_place(order, shift, bias, weights, state, piece);
     let after = done.state;
     after
 }
@@ -141,7 +139,7 @@ fn report(
 ) {
     fill(latents);
     crate::say_case(8, order, shift, bias, latents.len());
-    let done = encoding::w8::encode_in_place(order, shift, bias, weights, latents);
+    let done = width_8::encoding_8::encode_in_place(order, shift, bias, weights, latents);
     let answer = done.answer;
     let state = done.state;
     let saved = state.samples;

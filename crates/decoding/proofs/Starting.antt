@@ -1,12 +1,10 @@
 -- From a call's numbers to what the steps of decoding lean on, and from what they leave back to the call, once the tests have passed.
 -- Assumes nothing.
-use mathlib.Core.Path.{_≡_}
+use mathlib.Core.Path.{_≡_, sym, _∙_}
 use mathlib.Core.List.{List, _++_}
 use Prim.Native.Nat.{ℕ, _-_}
-use native.Mathlib.Omega.{arith}
 use lib.IntN.{ℤ, pos}
 use lib.ListN.{length, take, replicate}
-use lib.Seq.{length-take-le}
 use Rattle.rule.specs.Coding.{decodedPiece, newState}
 use Rattle.rule.specs.Refusals.{Config, predictor}
 use Rattle.rule.proofs.Passing.{Passed}
@@ -17,11 +15,11 @@ module _ (W : ℕ) (c : Config) (state : ℕ) (ok : Passed W c state) (wide : Li
   weights-are : take (c .order) wide ≡ c .weights
   weights-are = converting.weights-are W c state ok wide wide-is
 
-  pub startable : (samples : List ℕ) → length samples ≡ 32 → Startable W (c .shift) (c .bias) (take (c .order) wide) (take (c .order) samples)
-  startable samples long =
+  pub startable : (samples : List ℕ) → length samples ≡ c .order → Startable W (c .shift) (c .bias) (take (c .order) wide) samples
+  startable samples full =
       rw weights-are
       (record {
-        full = rw (length-take-le (c .order) samples (omega (arith, ok .few)), ok .weights);
+        full = full ∙ sym (ok .weights);
         few = rw (ok .weights) (ok .few);
         ready = ok .ready;
       })

@@ -1,16 +1,17 @@
 // Decoding 16-bit samples, the general way.
 use kinds::Answer;
 use kinds::Order;
+use kinds::SampleCount;
 use kinds::Shift;
 use kinds::State16;
 use kinds::Width;
 ghost use mathlib.Core.Path.{_≡_};
-ghost use mathlib.Core.List.{_++_};
+ghost use mathlib.Core.Bool.{true};
 ghost use Prim.Native.Nat.{_+_, _≤_};
 ghost use lib.ListN.{length, take, drop};
-ghost use Rattle.kinds.specs.Answers.{whenDone};
+ghost use Rattle.kinds.specs.Answers.{isDone, whenDone};
 ghost use Rattle.rule.specs.Prediction.{Ready, prediction};
-ghost use Rattle.rule.specs.Coding.{extended, pieceFrom, arrayAfter};
+ghost use Rattle.rule.specs.Coding.{extended, decodedPiece, newState, pieceFrom, arrayAfter};
 ghost use Rattle.rule.specs.Refusals.{config, predictor, codingRefusal};
 ghost use Rattle.decoding.specs.Steps.{Startable, Decodes};
 
@@ -94,7 +95,49 @@ fn decode_latents(
     }
 }
 
-// Decodes a piece in place from a state: outputs lag by k, the samples that are still to come out being the new state.
+// Decodes where the tests have passed.
+fn decode_admitted(
+    order: Order,
+    shift: Shift,
+    bias: i64,
+    weights: &[i32],
+    state: &mut [u16],
+    piece: &mut [u16],
+)
+    requires { ⌜ isDone (codingRefusal 16 (config order shift bias (now weights)) (length (now state))) ≡ true ⌝ }
+    ensures { λ _. ⌜ now (piece .exit) ≡ decodedPiece 16 (order .0) (predictor 16 (config order shift bias (now (weights .entry)))) (now (state .entry)) (now (piece .entry)) ⌝ }
+    ensures { λ _. ⌜ now (state .exit) ≡ newState 16 (order .0) (predictor 16 (config order shift bias (now (weights .entry)))) (now (state .entry)) (now (piece .entry)) ⌝ }
+{
+    let k = order.0;
+    let config = prediction::w16::conv(bias, weights);
+    let wide = config.weights;
+    decode_latents(&wide[..k], config.bias, shift, state, piece);
+}
+
+// Decodes a piece in place from a state: outputs lag by k, and the samples that are still to come out take the state's place, for the
+// piece that follows. The state's length counts for test 4.
+pub fn decode_into(
+    order: Order,
+    shift: Shift,
+    bias: i64,
+    weights: &[i32],
+    state: &mut [u16],
+    piece: &mut [u16],
+) -> Answer
+    ensures { λ r. ⌜ r ≡ codingRefusal 16 (config order shift bias (now (weights .entry))) (length (now (state .entry))) ⌝ }
+    ensures { λ r. ⌜ now (piece .exit) ≡ whenDone r (decodedPiece 16 (order .0) (predictor 16 (config order shift bias (now (weights .entry)))) (now (state .entry)) (now (piece .entry))) (now (piece .entry)) ⌝ }
+    ensures { λ r. ⌜ now (state .exit) ≡ whenDone r (newState 16 (order .0) (predictor 16 (config order shift bias (now (weights .entry)))) (now (state .entry)) (now (piece .entry))) (now (state .entry)) ⌝ }
+{
+    let held = SampleCount(state.len());
+    let answer = admission::coding_answer(Width::Sixteen, order, shift, bias, weights, held);
+    if !kinds::is_done(answer) {
+        return answer;
+    }
+    decode_admitted(order, shift, bias, weights, state, piece);
+    answer
+}
+
+// The same, with the state by value.
 pub fn decode_general(
     order: Order,
     shift: Shift,
@@ -113,10 +156,8 @@ pub fn decode_general(
         return Decoded { answer, state };
     }
     let k = order.0;
-    let config = prediction::w16::conv(bias, weights);
-    let wide = config.weights;
     let mut samples = state.samples;
-    decode_latents(&wide[..k], config.bias, shift, &mut samples[..k], piece);
+    decode_admitted(order, shift, bias, weights, &mut samples[..k], piece);
     Decoded {
         answer,
         state: State16 { samples, count },

@@ -7,7 +7,7 @@ use kinds::State16;
 use kinds::Width;
 ghost use mathlib.Core.Path.{_≡_};
 ghost use mathlib.Core.List.{[], _++_};
-ghost use Prim.Native.Nat.{ℕ, _+_, _-_, _≤_, _<_, min};
+ghost use Prim.Native.Nat.{ℕ, _+_, _-_, _*_, _/_, _≤_, _<_, min};
 ghost use lib.ListN.{length, getD, take, drop, replicate};
 ghost use Rattle.kinds.specs.Answers.{numberOf, whenDone};
 ghost use Rattle.rule.specs.Prediction.{Ready, prediction};
@@ -168,6 +168,7 @@ pub fn encode<'a, 'b, 'c>(
     number: &'c mut u32,
 ) -> &'a mut [u16]
     ensures { λ r. ⌜ now r ≡ whenDone (encodingRefusal 16 (config order shift bias (now (weights .entry))) (length (now (state .entry))) (length (now (latents .entry)))) (drop (order .0) (encodedBuffer 16 (order .0) (predictor 16 (config order shift bias (now (weights .entry)))) (now (latents .entry)))) [] ⌝ }
+    ensures { λ r. ⌜ r .ptr ≡ (latents .entry .ptr .0, whenDone (encodingRefusal 16 (config order shift bias (now (weights .entry))) (length (now (state .entry))) (length (now (latents .entry)))) (order .0) (length (now (latents .entry))) * (16 / 8) + latents .entry .ptr .1) ⌝ }
     ensures { λ r. ⌜ now (state .exit) ≡ whenDone (encodingRefusal 16 (config order shift bias (now (weights .entry))) (length (now (state .entry))) (length (now (latents .entry)))) (take (order .0) (now (latents .entry))) (now (state .entry)) ⌝ }
     ensures { λ r. ⌜ now (number .exit) ≡ numberOf (encodingRefusal 16 (config order shift bias (now (weights .entry))) (length (now (state .entry))) (length (now (latents .entry)))) ⌝ }
 {

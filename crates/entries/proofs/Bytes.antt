@@ -1,6 +1,6 @@
 -- One entry: a number and its bytes, each from the other; what is read where an entry was written, and what is left beside it.
 -- Assumes nothing.
-use mathlib.Core.Path.{_≡_, refl, sym, ap, ap₂, _∙_}
+use mathlib.Core.Path.{_≡_, refl, ap, ap₂, _∙_}
 use mathlib.Core.List.{List, [], _∷_, _++_}
 use Prim.Native.Nat.{ℕ, zero, suc, _+_, _-_, _*_, _/_, _%_, _^_, _≤_, _<_}
 use native.Mathlib.Nat.{pow-suc, pow-le-pow-right, mod-add-div, div-lt-iff-lt-mul}

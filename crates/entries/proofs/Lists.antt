@@ -1,6 +1,6 @@
 -- Lists of entries: their bytes and back, the entries of a part, and the loops that load and store them. Over the number n of bytes
 -- in an entry. Assumes nothing.
-use mathlib.Core.Path.{_≡_, refl, sym, ap, ap₂, _∙_}
+use mathlib.Core.Path.{_≡_, refl, sym, ap, _∙_}
 use mathlib.Core.List.{List, [], _∷_, _++_, map, map-append, append-assoc, append-nil}
 use Prim.Native.Nat.{ℕ, zero, suc, _+_, _-_, _*_, _/_, _^_, _≤_, _<_}
 use native.Mathlib.Nat.{zero-add, add-comm, mul-zero, mul-suc, mul-div-cancel-left, mul-le-mul-left, mul-add, zero-sub, sub-zero, suc-sub-suc, le-div-iff-mul-le, mul-comm}
@@ -10,7 +10,7 @@ use lib.IntN.{ℤ}
 use mir.Syntax.{Width}
 use mir.Val.{toZ}
 use lib.ListN.{length, getD, take, drop, length-append, length-take, length-drop}
-use lib.Seq.{take-nil, take-at, drop-at, drop-append-add, length-take-le, take-take, take-suc, drop-drop, take-add, take-all, ext-getD}
+use lib.Seq.{take-nil, take-at, drop-at, drop-append-add, length-take-le, take-take, take-suc, drop-drop, take-add, take-all}
 use Rattle.rule.specs.Coding.{tabulate}
 use Rattle.rule.proofs.Filling.{Filled, length-tabulate, getD-tabulate, tabulate-same, tabulate-part}
 use Rattle.entries.specs.Entries.{valueOf, bytesOf, entryAt, withEntry, entries, bytesOfAll, signedEntries}

@@ -23,7 +23,7 @@ fn low(value: u64) -> u8
 }
 
 // The entry in the `width` bytes from place `at` on, read from its last byte, the most significant, to its first.
-pub fn read_entry(bytes: &[u8], at: usize, width: usize) -> u64
+fn read_entry(bytes: &[u8], at: usize, width: usize) -> u64
     requires { ⌜ (at + width ≤ length (now bytes)) × (width ≤ 8) ⌝ }
     ensures { λ r. ⌜ r ≡ entryAt width (now (bytes .entry)) at ⌝ }
 {
@@ -37,7 +37,7 @@ pub fn read_entry(bytes: &[u8], at: usize, width: usize) -> u64
 }
 
 // Writes the low `width` bytes of the value from place `at` on, and no other byte.
-pub fn write_entry(bytes: &mut [u8], at: usize, width: usize, value: u64)
+fn write_entry(bytes: &mut [u8], at: usize, width: usize, value: u64)
     requires { ⌜ at + width ≤ length (now bytes) ⌝ }
     ensures { λ _. ⌜ now (bytes .exit) ≡ withEntry width (now (bytes .entry)) at value ⌝ }
 {

@@ -4,8 +4,8 @@ ghost use mathlib.Core.List.{_++_};
 ghost use Prim.Native.Nat.{_+_, _/_, _≤_};
 ghost use lib.ListN.{length, drop};
 ghost use mir.Syntax.{w32};
-ghost use mir.Val.{toZ, ofZ};
-ghost use Rattle.entries.specs.Entries.{entryAt, withEntry, signedEntries};
+ghost use mir.Val.{toZ};
+ghost use Rattle.entries.specs.Entries.{entryAt, signedEntries};
 
 // The signed number of these bits. Numbers from 2^31 on are negative, and no cast on the way loses a bit.
 fn from_bits_32(bits: u32) -> i32
@@ -17,27 +17,11 @@ fn from_bits_32(bits: u32) -> i32
     -1 - ((4294967295 - bits) as i32)
 }
 
-fn to_bits_32(value: i32) -> u32
-    ensures { λ r. ⌜ r ≡ ofZ w32 value ⌝ }
-{
-    if value < 0 {
-        return 4294967295 - ((-1 - value) as u32);
-    }
-    value as u32
-}
-
-pub fn read_i32(bytes: &[u8], at: usize) -> i32
+fn read_i32(bytes: &[u8], at: usize) -> i32
     requires { ⌜ at + 4 ≤ length (now bytes) ⌝ }
     ensures { λ r. ⌜ r ≡ toZ w32 (entryAt 4 (now (bytes .entry)) at) ⌝ }
 {
     from_bits_32(crate::w32::read(bytes, at))
-}
-
-pub fn write_i32(bytes: &mut [u8], at: usize, value: i32)
-    requires { ⌜ at + 4 ≤ length (now bytes) ⌝ }
-    ensures { λ _. ⌜ now (bytes .exit) ≡ withEntry 4 (now (bytes .entry)) at (ofZ w32 value) ⌝ }
-{
-    crate::w32::write(bytes, at, to_bits_32(value))
 }
 
 // The signed entries of `from` into the first places of `to`.

@@ -14,7 +14,7 @@ pub fn read(bytes: &[u8], at: usize) -> u16
     crate::read_entry(bytes, at, BYTES) as u16
 }
 
-pub fn write(bytes: &mut [u8], at: usize, value: u16)
+fn write(bytes: &mut [u8], at: usize, value: u16)
     requires { ⌜ at + 16 / 8 ≤ length (now bytes) ⌝ }
     ensures { λ _. ⌜ now (bytes .exit) ≡ withEntry (16 / 8) (now (bytes .entry)) at value ⌝ }
 {

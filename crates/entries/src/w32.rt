@@ -14,7 +14,7 @@ pub fn read(bytes: &[u8], at: usize) -> u32
     crate::read_entry(bytes, at, BYTES) as u32
 }
 
-pub fn write(bytes: &mut [u8], at: usize, value: u32)
+fn write(bytes: &mut [u8], at: usize, value: u32)
     requires { ⌜ at + 32 / 8 ≤ length (now bytes) ⌝ }
     ensures { λ _. ⌜ now (bytes .exit) ≡ withEntry (32 / 8) (now (bytes .entry)) at value ⌝ }
 {

@@ -14,7 +14,7 @@ pub fn read(bytes: &[u8], at: usize) -> u8
     crate::read_entry(bytes, at, BYTES) as u8
 }
 
-pub fn write(bytes: &mut [u8], at: usize, value: u8)
+fn write(bytes: &mut [u8], at: usize, value: u8)
     requires { ⌜ at + 8 / 8 ≤ length (now bytes) ⌝ }
     ensures { λ _. ⌜ now (bytes .exit) ≡ withEntry (8 / 8) (now (bytes .entry)) at value ⌝ }
 {

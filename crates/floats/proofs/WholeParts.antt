@@ -1,7 +1,7 @@
 -- The whole part of q * 2 ^ s / 2 ^ 1074, and the nearest whole number, as shifts of q work them out. 2 ^ 1074 is behind the name `one`: written out it is too long for a tactic.
 use mathlib.Core.Path.{_≡_, sym, ap, _∙_, subst}
 use Prim.Native.Nat.{ℕ, _+_, _-_, _*_, _/_, _%_, _^_, _≤_, _<_, min}
-use native.Mathlib.Nat.{le-trans, le-of-eq, lt-of-lt-of-le, lt-of-le-of-lt, mul-pos, mul-assoc, mul-comm, mul-left-comm, mul-le-mul, mul-le-mul-right, mul-add, add-mul, div-eq-of-lt, le-div-iff-mul-le, mod-eq-of-lt, one-mul}
+use native.Mathlib.Nat.{le-trans, le-of-eq, lt-of-lt-of-le, lt-of-le-of-lt, mul-pos, mul-assoc, mul-comm, mul-left-comm, mul-le-mul, mul-le-mul-right, add-mul, div-eq-of-lt, le-div-iff-mul-le, mod-eq-of-lt, one-mul}
 use native.Mathlib.Omega.{arith}
 use lib.Arith.{digits-div}
 use lib.Dec.{lit≤, lit<}
@@ -39,15 +39,15 @@ halfUp-below a one h = div-eq-of-lt (less a one h)
 halfUp-shifted : (q half u one k : ℕ) → 0 < u → 0 < k → one ≡ k * u → k ≡ 2 * half → (q + half) / k ≡ halfUp (q * u) one
 halfUp-shifted q half u one k U K e f =
     div-same (q + half) k (2 * (q * u) + one) (2 * one) K (mul-pos (lit< tt) (subst (λ (z : ℕ). 0 < z) (sym e) (mul-pos K U)))
-    (rw (e, f) (simp (mul-add, add-mul, mul-assoc, mul-comm, mul-left-comm)))
+    (rw (e, f) (simp (add-mul, mul-assoc, mul-comm, mul-left-comm)))
 
 -- equal fractions round alike
 pub halfUp-same : (n d a c : ℕ) → 0 < d → 0 < c → n * c ≡ a * d → halfUp n d ≡ halfUp a c
 halfUp-same n d a c D C e =
     div-same (2 * n + d) (2 * d) (2 * a + c) (2 * c) (mul-pos (lit< tt) D) (mul-pos (lit< tt) C)
     (go (n * c) (a * d) (c * d) e
-    (simp (mul-add, add-mul, mul-assoc, mul-comm, mul-left-comm))
-    (simp (mul-add, add-mul, mul-assoc, mul-comm, mul-left-comm)))
+    (simp (add-mul, mul-assoc, mul-comm, mul-left-comm))
+    (simp (add-mul, mul-assoc, mul-comm, mul-left-comm)))
   where
     go : (x y z : ℕ) → x ≡ y → (2 * n + d) * (2 * c) ≡ 2 * (2 * x) + 2 * z → (2 * a + c) * (2 * d) ≡ 2 * (2 * y) + 2 * z → (2 * n + d) * (2 * c) ≡ (2 * a + c) * (2 * d)
     go x y z e f g = omega arith
@@ -117,7 +117,7 @@ module _ (q s : ℕ) (d : Digits q s) where
         (div-same q (2 ^ k) (q * 2 ^ s) (2 ^ 1074) (pow-pos k) (pow-pos 1074) (ap (λ (n : ℕ). q * n) split ∙ again q (2 ^ k) (2 ^ s)))
       where
         again : (q k s : ℕ) → q * (k * s) ≡ q * s * k
-        again q k s = simp (mul-assoc, mul-comm, mul-left-comm)
+        again q k s = simp (mul-assoc, mul-comm)
 
     two-halves : 2 ^ k ≡ 2 * 2 ^ (k - 1)
     two-halves = ap (λ (n : ℕ). 2 ^ n) (sym (one-less s h)) ∙ pow-add 2 1 (k - 1)

@@ -36,6 +36,10 @@ six-are d (a ∷ b ∷ c ∷ f ∷ g ∷ h ∷ i ∷ l) e = absurd (omega arith)
 pub back : (w : Width) {z : ℤ} → mag z < 2 ^ hbits w → toZ w (ofZ w z) ≡ z
 back w h = toZ-ofZ (record { sfits = h })
 
+-- and it is itself in a wider number's bits
+pub wider : (w v : Width) {z r : ℤ} → mag z < 2 ^ hbits w → SFits v z → r ≡ toZ w (ofZ w z) → toZ v (ofZ v r) ≡ z
+wider w v h fit e = rw (e, back w h) (toZ-ofZ fit)
+
 -- the oldest of six samples goes, and y comes
 pub shifted-are : (xs : List ℕ) (y : ℕ) → length xs ≡ 6 → six (getD xs 1 0) (getD xs 2 0) (getD xs 3 0) (getD xs 4 0) (getD xs 5 0) y ≡ shifted xs y
 shifted-are xs y e = ap (λ (l : List ℕ). shifted l y) (six-are 0 xs e)
@@ -115,7 +119,7 @@ module _ {W : ℕ} {bias : ℤ} {ws : List ℤ} {xs : List ℕ} {ns : List ℤ} 
       )
 
   -- what is asked where a term is added
-  pub asked : (w : Width) → hbits w ≡ accumulator W - 1 → (i : ℕ) → i < 6 → (n : ℤ) → n ≡ sumAt bias (take i ws) (drop (6 - i) xs)
+  pub asked : (w : Width) → accumulator W - 1 ≤ hbits w → (i : ℕ) → i < 6 → (n : ℤ) → n ≡ sumAt bias (take i ws) (drop (6 - i) xs)
       → SFits w (getD ws i (pos 0) *ℤ pos y) × SFits w (n +ℤ getD ws i (pos 0) *ℤ pos y)
   asked w e i h n is = (
     fits e (product-inside W bias ws (r .admits) i y small),
@@ -124,7 +128,7 @@ module _ {W : ℕ} {bias : ℤ} {ws : List ℤ} {xs : List ℕ} {ns : List ℤ} 
   )
 
   -- what is made there, from numbers and to a number that are held as bits
-  pub made : (w : Width) → hbits w ≡ accumulator W - 1 → (i : ℕ) → i < 6 → (n v : ℤ) → n ≡ sumAt bias (take i ws) (drop (6 - i) xs)
+  pub made : (w : Width) → accumulator W - 1 ≤ hbits w → (i : ℕ) → i < 6 → (n v : ℤ) → n ≡ sumAt bias (take i ws) (drop (6 - i) xs)
       → mag n < 2 ^ hbits w → mag (getD ws i (pos 0)) < 2 ^ hbits w
       → v ≡ toZ w (ofZ w n) +ℤ toZ w (ofZ w (getD ws i (pos 0))) *ℤ pos y → toZ w (ofZ w v) ≡ n +ℤ getD ws i (pos 0) *ℤ pos y
   made w e i h n v is hn hw ev = rw (ev, back w {z = n} hn, back w {z = getD ws i (pos 0)} hw) (toZ-ofZ (asked w e i h n is .1))

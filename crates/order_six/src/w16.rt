@@ -1,18 +1,21 @@
 // Decoding 16-bit samples at order 6.
 use decoding::w16::Decoded;
+use kinds::Answer;
 use kinds::Order;
+use kinds::SampleCount;
 use kinds::Shift;
 use kinds::State16;
 use kinds::Width;
 ghost use mathlib.Core.Path.{_≡_};
 ghost use mathlib.Core.Bool.{true};
+ghost use Prim.Native.Nat.{ℕ};
 ghost use lib.IntN.{pos, _+ℤ_, _*ℤ_};
-ghost use lib.ListN.{length};
-ghost use mir.Syntax.{w32 as acc};
+ghost use lib.ListN.{length, getD};
+ghost use mir.Syntax.{w32 as wide};
 ghost use mir.Val.{SFits};
-ghost use Rattle.kinds.specs.Answers.{whenDone};
+ghost use Rattle.kinds.specs.Answers.{isDone, whenDone};
 ghost use Rattle.rule.specs.Prediction.{admitted};
-ghost use Rattle.rule.specs.Coding.{pieceFrom, arrayAfter};
+ghost use Rattle.rule.specs.Coding.{decodedPiece, newState, pieceFrom, arrayAfter};
 ghost use Rattle.rule.specs.Refusals.{config, predictor, orderSixRefusal};
 ghost use Rattle.decoding.specs.Steps.{Startable, Decodes};
 ghost use Rattle.order_six.specs.Running.{six, Runs, shifted};
@@ -20,32 +23,35 @@ ghost use Rattle.order_six.specs.Running.{six, Runs, shifted};
 // The accumulator.
 type Conv = i32;
 
+// A sum in a register's width, as `prediction` has it, and the weights and the bias to go with it.
+type Wide = i32;
+
 // The last six samples, the oldest first, and the sums of the next six predictions as far as these samples go.
 struct Running {
     samples: [u16; 6],
-    sums: [Conv; 6],
+    sums: [Wide; 6],
 }
 
-fn six_of(weights: &[Conv]) -> [Conv; 6]
-    requires { ⌜ length (now weights) ≡ 6 ⌝ }
+fn six_of(weights: &[Conv]) -> [Wide; 6]
+    requires { ⌜ (length (now weights) ≡ 6) × ((i : ℕ) → SFits wide (getD (now weights) i (pos 0))) ⌝ }
     ensures { λ r. ⌜ r ≡ now (weights .entry) ⌝ }
 {
     [
-        weights[0],
-        weights[1],
-        weights[2],
-        weights[3],
-        weights[4],
-        weights[5],
+        prediction::w16::widened(weights[0]),
+        prediction::w16::widened(weights[1]),
+        prediction::w16::widened(weights[2]),
+        prediction::w16::widened(weights[3]),
+        prediction::w16::widened(weights[4]),
+        prediction::w16::widened(weights[5]),
     ]
 }
 
 // A sum with one weight's term more.
-fn added(sum: Conv, weight: Conv, latent: u16) -> Conv
-    requires { ⌜ SFits acc (weight *ℤ pos latent) × SFits acc (sum +ℤ weight *ℤ pos latent) ⌝ }
+fn added(sum: Wide, weight: Wide, latent: u16) -> Wide
+    requires { ⌜ SFits wide (weight *ℤ pos latent) × SFits wide (sum +ℤ weight *ℤ pos latent) ⌝ }
     ensures { λ r. ⌜ r ≡ sum +ℤ weight *ℤ pos latent ⌝ }
 {
-    sum + prediction::w16::product(weight, latent)
+    sum + weight * (latent as Wide)
 }
 
 // The oldest sample goes and a new one comes.
@@ -64,7 +70,7 @@ fn shift_in(samples: [u16; 6], latent: u16) -> [u16; 6]
 }
 
 // A new sample's terms go into the six sums at once: a prediction then waits for one product alone.
-fn next_sums(running: Running, weights: [Conv; 6], bias: Conv, latent: u16) -> [Conv; 6]
+fn next_sums(running: Running, weights: [Wide; 6], bias: Wide, latent: u16) -> [Wide; 6]
     requires { ⌜ Runs 16 bias weights (running .samples) (running .sums) ⌝ }
     ensures { λ r. ⌜ Runs 16 bias weights (shifted (running .samples) latent) r ⌝ }
 {
@@ -79,7 +85,7 @@ fn next_sums(running: Running, weights: [Conv; 6], bias: Conv, latent: u16) -> [
     ]
 }
 
-fn next(running: Running, weights: [Conv; 6], bias: Conv, latent: u16) -> Running
+fn next(running: Running, weights: [Wide; 6], bias: Wide, latent: u16) -> Running
     requires { ⌜ Runs 16 bias weights (running .samples) (running .sums) ⌝ }
     ensures { λ r. ⌜ (r .samples ≡ shifted (running .samples) latent) × Runs 16 bias weights (r .samples) (r .sums) ⌝ }
 {
@@ -90,7 +96,7 @@ fn next(running: Running, weights: [Conv; 6], bias: Conv, latent: u16) -> Runnin
 }
 
 // The sums over the state. Before any sample came they are those of six zeros: the bias alone.
-fn begun(weights: [Conv; 6], bias: Conv, state: &[u16]) -> Running
+fn begun(weights: [Wide; 6], bias: Wide, state: &[u16]) -> Running
     requires { ⌜ (length weights ≡ 6) × (admitted 16 bias weights ≡ true) × (length (now state) ≡ 6) ⌝ }
     ensures { λ r. ⌜ (r .samples ≡ now (state .entry)) × Runs 16 bias weights (r .samples) (r .sums) ⌝ }
 {
@@ -118,7 +124,8 @@ fn decode_latents(
     ensures { λ _. ⌜ Decodes 16 (shift .0) bias (now (weights .entry)) (now (state .entry)) (now (latents .entry)) (now (latents .exit)) (now (state .exit)) ⌝ }
 {
     let six = six_of(weights);
-    let mut running = begun(six, bias, state);
+    let first = prediction::w16::widened(bias);
+    let mut running = begun(six, first, state);
     let mut i = 0;
     while i < latents.len() {
         let sums = running.sums;
@@ -126,14 +133,56 @@ fn decode_latents(
         let prediction = prediction::w16::settle(sums[0], shift);
         let latent = centre::w16::put_on(latents[i], prediction.value);
         latents[i] = samples[0];
-        running = next(running, six, bias, latent);
+        running = next(running, six, first, latent);
         i += 1;
     }
     let samples = running.samples;
     slices::w16::copy(&samples, state);
 }
 
-// Decodes a piece in place from a state, as the general way does: outputs lag by 6, and the last six samples are the new state.
+// Decodes where the tests have passed.
+fn decode_admitted(
+    order: Order,
+    shift: Shift,
+    bias: i64,
+    weights: &[i32],
+    state: &mut [u16],
+    piece: &mut [u16],
+)
+    requires { ⌜ isDone (orderSixRefusal 16 (config order shift bias (now weights)) (length (now state))) ≡ true ⌝ }
+    ensures { λ _. ⌜ now (piece .exit) ≡ decodedPiece 16 (order .0) (predictor 16 (config order shift bias (now (weights .entry)))) (now (state .entry)) (now (piece .entry)) ⌝ }
+    ensures { λ _. ⌜ now (state .exit) ≡ newState 16 (order .0) (predictor 16 (config order shift bias (now (weights .entry)))) (now (state .entry)) (now (piece .entry)) ⌝ }
+{
+    let k = order.0;
+    let config = prediction::w16::conv(bias, weights);
+    let wide = config.weights;
+    decode_latents(&wide[..k], config.bias, shift, state, piece);
+}
+
+// Decodes a piece in place from a state, as the general way does: outputs lag by 6, and the last six samples are the new state. The
+// state's length counts for test 4.
+pub fn decode_order_6_into(
+    order: Order,
+    shift: Shift,
+    bias: i64,
+    weights: &[i32],
+    state: &mut [u16],
+    piece: &mut [u16],
+) -> Answer
+    ensures { λ r. ⌜ r ≡ orderSixRefusal 16 (config order shift bias (now (weights .entry))) (length (now (state .entry))) ⌝ }
+    ensures { λ r. ⌜ now (piece .exit) ≡ whenDone r (decodedPiece 16 (order .0) (predictor 16 (config order shift bias (now (weights .entry)))) (now (state .entry)) (now (piece .entry))) (now (piece .entry)) ⌝ }
+    ensures { λ r. ⌜ now (state .exit) ≡ whenDone r (newState 16 (order .0) (predictor 16 (config order shift bias (now (weights .entry)))) (now (state .entry)) (now (piece .entry))) (now (state .entry)) ⌝ }
+{
+    let held = SampleCount(state.len());
+    let answer = crate::order_six_answer(Width::Sixteen, order, shift, bias, weights, held);
+    if !kinds::is_done(answer) {
+        return answer;
+    }
+    decode_admitted(order, shift, bias, weights, state, piece);
+    answer
+}
+
+// The same, with the state by value.
 pub fn decode_in_place_order_6(
     order: Order,
     shift: Shift,
@@ -152,10 +201,8 @@ pub fn decode_in_place_order_6(
         return Decoded { answer, state };
     }
     let k = order.0;
-    let config = prediction::w16::conv(bias, weights);
-    let wide = config.weights;
     let mut samples = state.samples;
-    decode_latents(&wide[..k], config.bias, shift, &mut samples[..k], piece);
+    decode_admitted(order, shift, bias, weights, &mut samples[..k], piece);
     Decoded {
         answer,
         state: State16 { samples, count },

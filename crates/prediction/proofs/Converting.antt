@@ -3,7 +3,7 @@
 -- Assumes nothing.
 use mathlib.Core.Path.{_≡_}
 use mathlib.Core.List.{List, _++_}
-use Prim.Native.Nat.{ℕ, _-_}
+use Prim.Native.Nat.{ℕ, _-_, _≤_}
 use native.Mathlib.Omega.{arith}
 use lib.IntN.{ℤ, pos}
 use lib.ListN.{length, take, replicate, length-append, length-replicate}
@@ -17,8 +17,8 @@ use Rattle.rule.proofs.Passing.{Passed}
 use Rattle.rule.proofs.Sums.{bias-inside, fits}
 
 module _ (W : ℕ) (c : Config) (state : ℕ) (ok : Passed W c state) where
-  pub bias-back : (w : Width) → hbits w ≡ accumulator W - 1 → toZ w (ofZ w (c .bias)) ≡ c .bias
-  bias-back w e = toZ-ofZ (fits e (bias-inside W (c .bias) (c .weights) (ok .ready .admits)))
+  pub bias-back : (w : Width) → accumulator W - 1 ≤ hbits w → toZ w (ofZ w (c .bias)) ≡ c .bias
+  bias-back w h = toZ-ofZ (fits h (bias-inside W (c .bias) (c .weights) (ok .ready .admits)))
 
   module _ (wide : List ℤ) (wide-is : wide ≡ c .weights ++ replicate (32 - length (c .weights)) (pos 0)) where
     pub wide-long : length wide ≡ 32

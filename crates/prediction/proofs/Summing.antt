@@ -27,6 +27,10 @@ begin ws xs b = record { at = omega arith; sum = refl }
 pub done : {ws : List ℤ} {xs : List ℕ} {b s : ℤ} {i : ℕ} → Summed ws xs b s i → length ws ≤ i → s ≡ sumAt b ws xs
 done {ws} {xs} {b} {s} {i} k h = k .sum ∙ sums.sum-whole b ws xs i h
 
+pub whole-inside : (W : ℕ) (b : ℤ) (ws : List ℤ) → admitted W b ws ≡ true → (xs : List ℕ) → Samples W xs → Inside W (sumAt b ws xs)
+whole-inside W b ws ok xs samples =
+    subst (Inside W) (sums.sum-whole b ws xs (length ws) (omega arith)) (sums.prefix-inside W b ws ok (length ws) xs samples)
+
 -- a turn: z is the product that it adds
 module _ {W : ℕ} {ws : List ℤ} {xs : List ℕ} {b s : ℤ} {i : ℕ} (ok : admitted W b ws ≡ true) (samples : Samples W xs)
     (in-weights : i < length ws) (in-window : i < length xs) (k : Summed ws xs b s i) where

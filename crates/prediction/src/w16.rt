@@ -6,15 +6,19 @@ ghost use mathlib.Core.List.{_++_};
 ghost use Prim.Native.Nat.{ℕ, _+_, _-_, _/_, _%_, _^_, _≤_, _<_};
 ghost use lib.IntN.{pos, _*ℤ_};
 ghost use lib.ListN.{length, replicate};
-ghost use mir.Syntax.{w32 as acc};
+ghost use mir.Syntax.{w32 as acc, w32 as wide};
 ghost use mir.Val.{SFits};
 ghost use Rattle.rule.specs.Numbers.{accumulator};
 ghost use Rattle.rule.specs.Prediction as rule;
 ghost use Rattle.rule.specs.Prediction.{Ready, admitted, prediction};
 ghost use Rattle.rule.specs.Coding.{tabulate, window};
 
-// The accumulator, with twice a sample's bits, and the same bits unsigned.
+// The accumulator, with twice a sample's bits.
 type Conv = i32;
+
+// A sum in a register's width, 32 bits or more, and the same bits unsigned. Narrower sums of the order-6 way get packed into vectors,
+// and each prediction then waits for the unpacking.
+type Wide = i32;
 
 type Bits = u32;
 
@@ -59,7 +63,15 @@ pub fn conv(bias: i64, weights: &[i32]) -> Config
     }
 }
 
-pub fn product(weight: Conv, latent: u16) -> Conv
+// A number of the accumulator's in a register's width.
+pub fn widened(z: Conv) -> Wide
+    requires { ⌜ SFits wide z ⌝ }
+    ensures { λ r. ⌜ r ≡ z ⌝ }
+{
+    z as Wide
+}
+
+fn product(weight: Conv, latent: u16) -> Conv
     requires { ⌜ SFits acc (weight *ℤ pos latent) ⌝ }
     ensures { λ r. ⌜ r ≡ weight *ℤ pos latent ⌝ }
 {
@@ -81,7 +93,7 @@ fn reduced(s: Bits) -> u16
 }
 
 // What becomes of a sum: nothing of it where it is negative.
-pub fn settle(s: Conv, shift: Shift) -> Prediction
+pub fn settle(s: Wide, shift: Shift) -> Prediction
     requires { ⌜ shift .0 < accumulator 16 ⌝ }
     ensures { λ r. ⌜ r .value ≡ rule.settle 16 (shift .0) s ⌝ }
 {
@@ -104,7 +116,7 @@ pub fn predict_one(latents: &[u16], weights: &[Conv], bias: Conv, shift: Shift) 
         s += product(weights[i], latents[i]);
         i += 1;
     }
-    settle(s, shift)
+    settle(widened(s), shift)
 }
 
 // Fills `preds`: each place from its own window of `latents`, the first from the first samples. There is a sample after each window.

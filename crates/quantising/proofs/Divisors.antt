@@ -126,7 +126,7 @@ module _ (L d : Float) (l : Limit L) (p : T (positive d)) (f : T (fits binary64 
       (le-trans (mul-le-mul (l .to-top) g) (le-of-eq (again (2 ^ 63) (den L) (num d))))
     where
       again : (c x y : ℕ) → c * x * y ≡ c * (y * x)
-      again c x y = simp (mul-assoc, mul-comm, mul-left-comm)
+      again c x y = simp (mul-assoc, mul-comm)
 
   pub over-positive : T (positive (L ⊘ d))
   unfolding least

@@ -21,7 +21,13 @@ fn code(shift: Shift, bias: i64, order: Order, weights: [i32; 32]) {
         return;
     }
     let mut samples: [u8; 3] = [10, 12, 11];
-    let done = encoding::w8::encode_in_place(order, shift, bias, &weights[..k], &mut samples);
+    let done = width_8::encoding_8::encode_in_place(
+        order,
+        shift,
+        bias,
+        &weights[..k],
+        &mut samples,
+    );
     let answer = done.answer;
     say_number(kinds::number(answer) as u64);
     say_sample(samples[0]);

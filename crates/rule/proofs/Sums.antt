@@ -5,13 +5,13 @@ use mathlib.Core.Path.{_≡_, refl}
 use mathlib.Core.Bool.{true}
 use mathlib.Core.List.{List, [], _∷_}
 use Prim.Native.Nat.{ℕ, zero, suc, _+_, _-_, _*_, _^_, _≤_, _<_}
-use native.Mathlib.Nat.{mul-add, mul-le-mul-left, not-suc-le-zero, le-of-suc-le-suc}
+use native.Mathlib.Nat.{lt-of-lt-of-le, mul-add, mul-le-mul-left, not-suc-le-zero, le-of-suc-le-suc}
 use native.Mathlib.Numerals.{add-one}
 use native.Mathlib.Omega.{arith}
 use borrow.Author.Tests.{leb-true}
 use lib.IntN.{ℤ, pos, natAbs, _+ℤ_, _*ℤ_, one, *ℤ-one}
 use lib.ListN.{length, getD, take}
-use lib.Pow.{pow-pos, pow-lt}
+use lib.Pow.{pow-pos, pow-lt, pow-mono}
 use lib.Seq.{take-all}
 use lib.Signed.{mag}
 use mir.Syntax.{Width}
@@ -94,9 +94,9 @@ module _ (W : ℕ) (bias : ℤ) (ws : List ℤ) (ok : admitted W bias ws ≡ tru
   pub weight-inside : 0 < W → (i : ℕ) → Inside W (getD ws i (pos 0))
   weight-inside h i = rw times-one at (product-inside i 1 (pow-lt h))
 
--- ---- a machine's signed width that is the accumulator's
-pub fits : {w : Width} {W : ℕ} {z : ℤ} → hbits w ≡ accumulator W - 1 → Inside W z → SFits w z
-fits e k = record { sfits = rw e (k .inside) }
+-- ---- a machine's signed width that has the accumulator's bits, or more
+pub fits : {w : Width} {W : ℕ} {z : ℤ} → accumulator W - 1 ≤ hbits w → Inside W z → SFits w z
+fits h k = record { sfits = lt-of-lt-of-le (k .inside) (pow-mono h) }
 
 -- ---- the sum, one weight more
 next-at : (s : ℤ) (ws : List ℤ) (xs : List ℕ) (i : ℕ) → i < length ws → i < length xs

@@ -1,9 +1,8 @@
 -- The loop is `Turns`' first part. Assumes nothing.
-use mathlib.Core.Path.{_≡_, refl, sym, ap, _∙_}
-use Prim.Native.Nat.{ℕ, suc, _+_, _-_, _*_, _^_, _<_}
+use mathlib.Core.Path.{_≡_}
+use Prim.Native.Nat.{_-_, _^_, _<_}
 use native.Mathlib.Omega.{arith}
 use borrow.Author.Needs.{needs}
-use lib.ListN.{getD}
 use Rattle.entries.proofs.Turns as turns
 use Rattle.entries.proofs.read_entry.Statement.{statement}
 use Rattle.entries.proofs.read_entry.Tie as tie

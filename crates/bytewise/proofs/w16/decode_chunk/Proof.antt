@@ -1,11 +1,10 @@
 -- What is loaded is the piece's entries, and what is stored their outputs' bytes: `Chunks`' first part. Assumes nothing.
-use mathlib.Core.Path.{_≡_, refl, sym, ap, _∙_}
+use mathlib.Core.Path.{_≡_, sym, ap, _∙_}
 use mathlib.Core.List.{List, _++_}
-use Prim.Native.Nat.{ℕ, _*_, _/_, _≤_}
+use Prim.Native.Nat.{ℕ, _/_}
 use native.Mathlib.Omega.{arith}
 use borrow.Author.Needs.{needs}
-use lib.ListN.{length, take, drop, length-append}
-use lib.Seq.{length-take-le}
+use lib.ListN.{length, take}
 use mir.Facts.{toZ-ofZ}
 use Rattle.rule.specs.Coding.{decodedPiece}
 use Rattle.rule.specs.Refusals.{Config, config, predictor}

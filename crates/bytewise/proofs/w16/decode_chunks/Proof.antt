@@ -1,15 +1,14 @@
 -- The loop is `Chunks`' second part. Assumes nothing.
-use mathlib.Core.Path.{_≡_, refl, sym, ap, _∙_}
+use mathlib.Core.Path.{_≡_, refl, sym, _∙_}
 use mathlib.Core.List.{List}
-use Prim.Native.Nat.{ℕ, _+_, _-_, _*_, _/_, _≤_, _<_}
-use native.Mathlib.Nat.{mul-div-cancel-left}
+use Prim.Native.Nat.{ℕ, _+_, _-_, _/_}
 use native.Mathlib.Omega.{arith}
 use borrow.Author.Needs.{needs}
 use lib.ListN.{length}
 use mir.Syntax.{w64}
 use mir.Val.{toZ, ofZ}
 use mir.Facts.{toZ-ofZ}
-use Rattle.rule.specs.Refusals.{Config, config, predictor}
+use Rattle.rule.specs.Refusals.{config, predictor}
 use Rattle.rule.proofs.Passing.{coding-passed}
 use Rattle.bytewise.proofs.Chunks as law
 use Rattle.bytewise.proofs.w16.decode_chunks.Statement.{statement}

@@ -1,5 +1,5 @@
 -- Another order is refused; at order 6 the table's first test falls away. Assumes nothing.
-use mathlib.Core.Path.{refl, sym, _∙_}
+use mathlib.Core.Path.{refl, _∙_}
 use borrow.Author.Needs.{needs}
 use borrow.Author.Tests.{eq-eqb, ne-eqb}
 use mir.Facts.{toZ-ofZ}

@@ -57,6 +57,9 @@ module _ (c : tie.After-when-done) where
       handing.begins-inside answer (a .args .order .0) (c .when-done .result) (a .args .latents .now) coded left left-is (c .when-done .ensures)
       (λ done. rw same (passing.encoding-passed 16 conf (length (a .args .state .now)) (length (a .args .latents .now)) (ap isDone (sym said) ∙ done) .1))
 
+  from-is : c .when-done .result ≡ whenDone answer (a .args .order .0) (length (a .args .latents .now))
+  from-is = c .when-done .ensures ∙ ap (whenDone answer (a .args .order .0)) same
+
 -- the place in bytes
 mul-latents : tie.Need-mul-latents
 mul-latents c = omega (arith, inside c, same c, a c .good .1 .1 .1 .1 .0)
@@ -78,7 +81,10 @@ returns c =
     let v = c .before in
     rw (← said v) (
       handing.part-is (answer v) (a v .args .order .0) (v .when-done .result) (a v .args .latents .now) (coded v) (left v) (left-is v) (v .when-done .ensures),
-      (i v .encode-into .ensures .1 .1, v .before .number .ensures),
+      (
+        ap (λ (n : ℕ). (a v .args .latents .ptr .0, n)) (omega (arith, from-is v)),
+        (i v .encode-into .ensures .1 .1, v .before .number .ensures),
+      ),
     )
 
 pub encode-spec : {M : Type 1} → statement M

@@ -5,6 +5,7 @@ use Prim.Native.Nat.{_≤_}
 use native.Mathlib.Omega.{arith}
 use borrow.Author.Needs.{needs}
 use borrow.Author.Tests.{not-true, not-false}
+use lib.Dec.{lit≤}
 use lib.IntN.{ℤ}
 use lib.ListN.{length, take}
 use lib.Seq.{length-take-le}
@@ -82,7 +83,7 @@ module _ (c : tie.After-conv) where
 
   bias-is : toZ acc (ofZ acc (c .conv .result .bias)) ≡ s .args .bias
   bias-is =
-      ap (λ (z : ℤ). toZ acc (ofZ acc z)) (c .conv .ensures .0 ∙ toZ-ofZ (s .fits .bias)) ∙ converting.bias-back 16 _ _ (passed b .0) acc refl
+      ap (λ (z : ℤ). toZ acc (ofZ acc z)) (c .conv .ensures .0 ∙ toZ-ofZ (s .fits .bias)) ∙ converting.bias-back 16 _ _ (passed b .0) acc (lit≤ tt)
 
 array-share-prefix-wide : tie.Need-array-share-prefix-wide
 array-share-prefix-wide c = rw (weights-long (c .before)) (passed (b (c .before)) .0 .few)

@@ -1,6 +1,5 @@
 -- `Lists`' loop. Assumes nothing.
-use mathlib.Core.Path.{_≡_}
-use Prim.Native.Nat.{ℕ, _*_, _/_, _-_, _≤_}
+use Prim.Native.Nat.{_/_, _-_}
 use native.Mathlib.Omega.{arith}
 use lib.ListN.{length}
 use Rattle.entries.proofs.Lists as lists

@@ -1,22 +1,28 @@
--- Both the product and the sum fit. Assumes nothing.
+-- Both the product and the sum fit, and so they are those of the bits. Assumes nothing.
 use mathlib.Core.Path.{_≡_}
-use borrow.Author.Needs.{needs}
+use native.Mathlib.Omega.{arith}
 use lib.IntN.{pos, _*ℤ_}
-use mir.Facts.{toZ-ofZ}
+use mir.Facts.{toZ-ofZ, toZ-pos}
+use mir.Syntax.{w32 as wide}
+use mir.Val.{toZ, ofZ}
 use Rattle.order_six.proofs.w16.added.Statement.{statement}
 use Rattle.order_six.proofs.w16.added.Tie as tie
 
-product-requires : tie.Need-product-requires
-product-requires c κs = search needs
+cast-result : tie.Need-cast-result
+cast-result c = record { sfits = omega arith }
 
-term : (c : tie.After-product) → c .product .result ≡ c .before .args .weight *ℤ pos (c .before .args .latent)
-term c = rw (toZ-ofZ (c .before .fits .weight)) at (c .product .ensures)
+-- the two factors, by their bits
+factors : (c : tie.Start) → toZ wide (ofZ wide (c .args .weight)) *ℤ toZ wide (c .args .latent) ≡ c .args .weight *ℤ pos (c .args .latent)
+factors c = rw (toZ-ofZ (c .fits .weight), toZ-pos wide {n = c .args .latent} (omega arith))
+
+mul-result : tie.Need-mul-result
+mul-result c = rw (factors c) (c .pre .0)
 
 add-result : tie.Need-add-result
-add-result c = rw (toZ-ofZ (c .before .fits .sum), term c, toZ-ofZ (c .before .pre .0)) (c .before .pre .1)
+add-result c = rw (toZ-ofZ (c .fits .sum), factors c, toZ-ofZ (c .pre .0)) (c .pre .1)
 
 returns : tie.Need-returns
-returns c = rw (toZ-ofZ (c .before .fits .sum), term c, toZ-ofZ (c .before .pre .0)) (toZ-ofZ (c .before .pre .1))
+returns c = rw (toZ-ofZ (c .fits .sum), factors c, toZ-ofZ (c .pre .0)) (toZ-ofZ (c .pre .1))
 
 pub added-spec : {M : Type 1} → statement M
-added-spec = tie.close (tie.spec product-requires add-result returns)
+added-spec = tie.close (tie.spec cast-result mul-result add-result returns)

@@ -1,9 +1,9 @@
 -- The weights so far stand in front of the zeros; each fits the accumulator, since the configuration is admitted. Assumes nothing.
-use mathlib.Core.Path.{_≡_, refl, ap, _∙_}
+use mathlib.Core.Path.{_≡_, ap, _∙_}
 use mathlib.Core.List.{List}
 use Prim.Native.Nat.{ℕ, _≤_, _-_}
 use native.Mathlib.Omega.{arith}
-use lib.Dec.{lit<}
+use lib.Dec.{lit<, lit≤}
 use lib.IntN.{ℤ, pos}
 use lib.ListN.{length, getD, replicate}
 use lib.Seq.{take-length}
@@ -41,7 +41,7 @@ module _ (c : tie.After-weight-to-conv-arg Inv-loop μ-loop) where
   weight-is = toZ-ofZ (record { sfits = c .weight-to-conv-arg .given })
 
   weight-fits : SFits acc (getD weights i (pos 0))
-  weight-fits = sums.fits {W = 16} refl (sums.weight-inside 16 _ weights (c .before .before .before .pre .1) (lit< tt) i)
+  weight-fits = sums.fits {W = 16} (lit≤ tt) (sums.weight-inside 16 _ weights (c .before .before .before .pre .1) (lit< tt) i)
 
 weight-to-conv-requires : tie.Need-weight-to-conv-requires Inv-loop μ-loop
 weight-to-conv-requires c κs = rw (weight-is c) (weight-fits c)
@@ -67,7 +67,7 @@ loop-again c =
     )
 
 bias-fits : (c : tie.Start Inv-loop μ-loop) → SFits acc (c .args .bias)
-bias-fits c = sums.fits {W = 16} refl (sums.bias-inside 16 (c .args .bias) (c .args .weights .now) (c .pre .1))
+bias-fits c = sums.fits {W = 16} (lit≤ tt) (sums.bias-inside 16 (c .args .bias) (c .args .weights .now) (c .pre .1))
 
 bias-to-conv-requires : tie.Need-bias-to-conv-requires Inv-loop μ-loop
 bias-to-conv-requires c κs = rw (toZ-ofZ (c .before .before .fits .bias)) (bias-fits (c .before .before))

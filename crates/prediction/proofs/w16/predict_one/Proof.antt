@@ -1,15 +1,15 @@
 -- The loop is `Summing`'s, and what becomes of its sum is `settle`'s. Assumes nothing.
-use mathlib.Core.Path.{_≡_, refl, ap, _∙_}
+use mathlib.Core.Path.{_≡_, ap, _∙_}
 use mathlib.Core.Bool.{true}
 use Prim.Native.Nat.{_-_, _<_}
 use native.Mathlib.Omega.{arith}
-use lib.Dec.{lit<}
+use lib.Dec.{lit<, lit≤}
 use lib.IntN.{ℤ, pos, _+ℤ_, _*ℤ_}
 use lib.ListN.{length, getD}
 use mir.Facts.{toZ-ofZ}
-use mir.Syntax.{w32 as acc}
+use mir.Syntax.{w32 as acc, w32 as wide}
 use mir.Val.{SFits, toZ, ofZ}
-use Rattle.rule.specs.Prediction.{admitted, settle, prediction}
+use Rattle.rule.specs.Prediction.{admitted, sumAt, settle, prediction}
 use Rattle.rule.proofs.Sums as sums
 use Rattle.prediction.proofs.Summing as summing
 use Rattle.prediction.proofs.w16.predict_one.Statement.{statement}
@@ -61,10 +61,10 @@ module _ (c : tie.After-shared-slice-known2 Inv-loop μ-loop) where
   in-window = omega arith
 
   weight-is : toZ acc (ofZ acc (getD (a .args .weights .now) (l .loop .i) (pos 0))) ≡ getD (a .args .weights .now) (l .loop .i) (pos 0)
-  weight-is = toZ-ofZ (sums.fits {W = 16} refl (sums.weight-inside 16 (a .args .bias) (a .args .weights .now) ok (lit< tt) (l .loop .i)))
+  weight-is = toZ-ofZ (sums.fits {W = 16} (lit≤ tt) (sums.weight-inside 16 (a .args .bias) (a .args .weights .now) ok (lit< tt) (l .loop .i)))
 
   term-fits : SFits acc (getD (a .args .weights .now) (l .loop .i) (pos 0) *ℤ pos (getD (a .args .latents .now) (l .loop .i) 0))
-  term-fits = sums.fits {W = 16} refl (summing.term-inside ok samples (c .before .before .loop-test .taken) in-window summed)
+  term-fits = sums.fits {W = 16} (lit≤ tt) (summing.term-inside ok samples (c .before .before .loop-test .taken) in-window summed)
 
 product-requires : tie.Need-product-requires Inv-loop μ-loop
 product-requires c κs = rw (weight-is c) (term-fits c)
@@ -77,7 +77,7 @@ module _ (c : tie.After-product Inv-loop μ-loop) where
 
   sum-fits : SFits acc (toZ acc (l (c .before) .loop .s) +ℤ toZ acc (ofZ acc (c .product .result)))
   sum-fits =
-      sums.fits {W = 16} refl
+      sums.fits {W = 16} (lit≤ tt)
       (summing.sum-inside (ok (c .before)) (samples (c .before)) (c .before .before .before .loop-test .taken) (in-window (c .before)) (summed (c .before)) term-is)
 
 add-s : tie.Need-add-s Inv-loop μ-loop
@@ -94,15 +94,32 @@ loop-again c =
     rw (toZ-ofZ (sum-fits c), bias-is (c .before))
     (summing.turn (ok (c .before)) (samples (c .before)) (c .before .before .before .loop-test .taken) (in-window (c .before)) (summed (c .before)) (term-is c))
 
+-- the whole sum
+module _ (c : tie.After-loop Inv-loop μ-loop) where
+  abbrev from : tie.Start Inv-loop μ-loop
+  from = c .before .before .before
+
+  sum-is : toZ acc (c .before .loop .s) ≡ sumAt (from .args .bias) (from .args .weights .now) (from .args .latents .now)
+  sum-is = summing.done (rw (toZ-ofZ (from .fits .bias)) at (c .before .loop .inv)) (c .loop-test .left)
+
+  whole-fits : SFits wide (toZ acc (c .before .loop .s))
+  whole-fits =
+      rw sum-is
+      (sums.fits {W = 16} (lit≤ tt)
+      (summing.whole-inside 16 _ _ (from .pre .1 .admits) _ (record { below = λ i. c .before .before .shared-slice-known .given i .fits })))
+
+widened-requires : tie.Need-widened-requires Inv-loop μ-loop
+widened-requires c κs = whole-fits c
+
 settle-requires : tie.Need-settle-requires Inv-loop μ-loop
-settle-requires c κs = c .before .before .before .pre .1 .shift
+settle-requires c κs = c .before .before .before .before .pre .1 .shift
 
 returns : tie.Need-returns Inv-loop μ-loop
 unfolding prediction
 returns c =
-    let a = c .before .before .before .before in
-    let k = rw (toZ-ofZ (a .fits .bias)) at (c .before .before .loop .inv) in
-    c .settle .ensures ∙ ap (λ (z : ℤ). settle 16 (a .args .shift .0) z) (summing.done k (c .before .loop-test .left))
+    let l = c .before .before in
+    let told = ap (λ (z : ℤ). toZ wide (ofZ wide z)) (c .before .widened .ensures) ∙ toZ-ofZ (whole-fits l) ∙ sum-is l in
+    c .settle .ensures ∙ ap (settle 16 (from l .args .shift .0)) told
 
 pub predict-one-spec : {M : Type 1} → statement M
 predict-one-spec =
@@ -120,5 +137,6 @@ predict-one-spec =
     add-i
     loop-less
     loop-again
+    widened-requires
     settle-requires
     returns)

@@ -3,13 +3,13 @@ use mathlib.Core.Path.{_≡_, ap, _∙_}
 use Prim.Native.Nat.{ℕ, _%_, _^_}
 use borrow.Author.Needs.{needs}
 use mir.Facts.{toZ-ofZ, fits-natAbs}
-use mir.Syntax.{w32 as acc}
+use mir.Syntax.{w32 as wide}
 use mir.Val.{toZ, ofZ}
 use Rattle.prediction.proofs.Summing as summing
 use Rattle.prediction.proofs.w16.settle.Statement.{statement}
 use Rattle.prediction.proofs.w16.settle.Tie as tie
 
-sum-is : (c : tie.Start) → toZ acc (ofZ acc (c .args .s)) ≡ c .args .s
+sum-is : (c : tie.Start) → toZ wide (ofZ wide (c .args .s)) ≡ c .args .s
 sum-is c = toZ-ofZ (c .fits .s)
 
 returns : tie.Need-returns
@@ -17,7 +17,7 @@ returns c = summing.settle-negative 16 (c .before .args .shift .0) (c .before .a
 
 cast-shifted-down : tie.Need-cast-shifted-down
 cast-shifted-down c = (
-  summing.not-negative (toZ acc (ofZ acc (c .before .args .s))) (c .if1 .left),
+  summing.not-negative (toZ wide (ofZ wide (c .before .args .s))) (c .if1 .left),
   rw (sum-is (c .before)) (fits-natAbs tt (c .before .fits .s)),
 )
 

@@ -1,0 +1,2 @@
+mod Lent
+pub mod Promises

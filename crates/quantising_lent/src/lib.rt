@@ -1,0 +1,44 @@
+// Quantising from a lent slice of floats, at each width. `w16` is the source of the other two: tools/widths.
+use kinds::Answer;
+use kinds::Order;
+use kinds::SampleCount;
+
+pub mod w16;
+pub mod w32;
+pub mod w8;
+
+ghost use mathlib.Core.Path.{_≡_};
+ghost use mathlib.Core.Bool.{not};
+ghost use Prim.Native.Nat.{_≤_};
+ghost use lib.Dec.{eqb};
+ghost use lib.ListN.{length, take};
+ghost use Rattle.kinds.specs.declared.Answer.the-variants.{Done, BadOrder, BadLength};
+ghost use Rattle.kinds.specs.Answers.{refuse};
+ghost use Rattle.rule.specs.Refusals.{orderFits};
+
+// Tests 1 and 4 of the fitted weights. Only those that pass have room in an array of 32.
+fn fitted_answer(order: Order, count: SampleCount) -> Answer
+    ensures { λ r. ⌜ r ≡ refuse (not (orderFits (order .0))) BadOrder (refuse (not (eqb (count .0) (order .0))) BadLength Done) ⌝ }
+{
+    if !admission::is_order(order) {
+        return Answer::BadOrder;
+    }
+    if !admission::is_length(order, count) {
+        return Answer::BadLength;
+    }
+    Answer::Done
+}
+
+// The lent floats in the first places of an array.
+fn held(fitted: &[f64]) -> [f64; 32]
+    requires { ⌜ length (now fitted) ≤ 32 ⌝ }
+    ensures { λ r. ⌜ take (length (now (fitted .entry))) r ≡ now (fitted .entry) ⌝ }
+{
+    let mut weights: [f64; 32] = [0.0; 32];
+    let mut i = 0;
+    while i < fitted.len() {
+        weights[i] = fitted[i];
+        i += 1;
+    }
+    weights
+}

@@ -1,0 +1,54 @@
+-- What reading and writing a record in plain numbers answer, and what they leave in what they were lent.
+use mathlib.Core.Bool.{Bool, cond, not}
+use mathlib.Core.List.{List}
+use Prim.Native.Nat.{ℕ}
+use lib.Dec.{eqb, ltb}
+use lib.IntN.{ℤ}
+use lib.ListN.{length}
+use Rattle.kinds.specs.declared.Answer.{Answer}
+use Rattle.kinds.specs.declared.Answer.the-variants.{Done, BadOrder, BadLength, UnknownVariant}
+use Rattle.kinds.specs.Answers.{refuse, whenDone}
+use Rattle.record.specs.declared.Reading.{Reading}
+use Rattle.record.specs.declared.Writing.{Writing}
+use Rattle.record.specs.Reading.{refusing, readRecord}
+use Rattle.record.specs.Writing.{writeAnswer, bytesAfter}
+use Rattle.record_numbers.specs.declared.Numbers.{Numbers}
+use Rattle.record_numbers.specs.declared.Readout.{Readout}
+use Rattle.record_numbers.specs.Numbers.{numbersOf, recordOf}
+use Rattle.rule.specs.Refusals.{orderFits}
+
+-- a reading in plain numbers: all 0 beside a refusal, whose record is the empty one
+abbrev pub readout : Reading → Readout
+readout r = record { answer = r .answer; numbers = numbersOf (r .delta .encoding); bits = r .bits }
+
+-- the record's array has 32 places: any other number of lent weights is 4, before the bytes are looked at
+unfoldable pub readInto : List ℕ → Bool → List ℤ → Reading
+readInto bytes variants weights = refusing (not (eqb (length weights) 32)) BadLength (readRecord bytes variants)
+
+-- what reading answers
+abbrev pub readNumbers : List ℕ → Bool → List ℤ → Readout
+readNumbers bytes variants weights = readout (readInto bytes variants weights)
+
+-- the lent weights at exit
+abbrev pub weightsAfter : List ℕ → Bool → List ℤ → List ℤ
+weightsAfter bytes variants weights =
+    whenDone (readInto bytes variants weights .answer) (readInto bytes variants weights .delta .weights) weights
+
+-- tests 1 and 4, for Conv1 alone
+abbrev pub conv1Refusal : ℕ → ℕ → Answer
+conv1Refusal order weights = refuse (not (orderFits order)) BadOrder (refuse (not (eqb weights order)) BadLength Done)
+
+-- what is tested before there is a record: 8; then, for Conv1, 1 and 4
+unfoldable pub numbersRefusal : Numbers → ℕ → Answer
+numbersRefusal n weights =
+    refuse (ltb 3 (n .variant)) UnknownVariant
+    (cond (eqb (n .variant) 3) (conv1Refusal (n .order .0) weights) Done)
+
+-- what writing answers: those tests, then the record's own
+unfoldable pub writeNumbers : Numbers → List ℤ → ℕ → Writing
+writeNumbers n weights room =
+    whenDone (numbersRefusal n (length weights)) (writeAnswer (recordOf n weights) room) (record { answer = numbersRefusal n (length weights); bits = 0 })
+
+-- the buffer at exit
+unfoldable pub bytesAfterNumbers : Numbers → List ℤ → List ℕ → List ℕ
+bytesAfterNumbers n weights bytes = whenDone (numbersRefusal n (length weights)) (bytesAfter (recordOf n weights) bytes) bytes

@@ -1,0 +1,60 @@
+// Decoding 32-bit samples.
+use crate::decoding_32::Decoded;
+use kinds::Answer;
+use kinds::Order;
+use kinds::Shift;
+use kinds::State32;
+ghost use mathlib.Core.Path.{_≡_};
+ghost use lib.ListN.{length};
+ghost use Rattle.kinds.specs.Answers.{whenDone};
+ghost use Rattle.rule.specs.Coding.{decodedPiece, newState, pieceFrom, arrayAfter};
+ghost use Rattle.rule.specs.Refusals.{config, predictor, codingRefusal};
+
+// The order that has a way of its own.
+const OWN_WAY: usize = 6;
+
+// Decodes a piece in place from a state, by the quicker way where there is one. Either way gives the same. The state's length counts
+// for test 4, and the new state takes its place.
+pub fn decode_into(
+    order: Order,
+    shift: Shift,
+    bias: i64,
+    weights: &[i32],
+    state: &mut [u32],
+    piece: &mut [u32],
+) -> Answer
+    ensures { λ r. ⌜ r ≡ codingRefusal 32 (config order shift bias (now (weights .entry))) (length (now (state .entry))) ⌝ }
+    ensures { λ r. ⌜ now (piece .exit) ≡ whenDone r (decodedPiece 32 (order .0) (predictor 32 (config order shift bias (now (weights .entry)))) (now (state .entry)) (now (piece .entry))) (now (piece .entry)) ⌝ }
+    ensures { λ r. ⌜ now (state .exit) ≡ whenDone r (newState 32 (order .0) (predictor 32 (config order shift bias (now (weights .entry)))) (now (state .entry)) (now (piece .entry))) (now (state .entry)) ⌝ }
+{
+    if order.0 == OWN_WAY {
+        return crate::order_six_32::decode_order_6_into(order, shift, bias, weights, state, piece);
+    }
+    crate::decoding_32::decode_into(order, shift, bias, weights, state, piece)
+}
+
+// The same, with the state by value.
+pub fn decode_in_place(
+    order: Order,
+    shift: Shift,
+    bias: i64,
+    weights: &[i32],
+    state: State32,
+    piece: &mut [u32],
+) -> Decoded
+    ensures answer { λ r. ⌜ r .answer ≡ codingRefusal 32 (config order shift bias (now (weights .entry))) (state .count .0) ⌝ }
+    ensures piece { λ r. ⌜ now (piece .exit) ≡ whenDone (r .answer) (pieceFrom 32 (order .0) (predictor 32 (config order shift bias (now (weights .entry)))) (state .samples) (now (piece .entry))) (now (piece .entry)) ⌝ }
+    ensures state { λ r. ⌜ (r .state .samples ≡ whenDone (r .answer) (arrayAfter 32 (order .0) (predictor 32 (config order shift bias (now (weights .entry)))) (state .samples) (now (piece .entry))) (state .samples)) × (r .state .count ≡ state .count) ⌝ }
+{
+    if order.0 == OWN_WAY {
+        return crate::order_six_32::decode_in_place_order_6(
+            order,
+            shift,
+            bias,
+            weights,
+            state,
+            piece,
+        );
+    }
+    crate::decoding_32::decode_general(order, shift, bias, weights, state, piece)
+}

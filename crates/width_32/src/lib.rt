@@ -1,0 +1,7 @@
+// The coders at 32 bits: each module is the copy of the 16-bit crate of its name, written by tools/widths.
+pub mod bytewise_32;
+pub mod conv1_32;
+pub mod decoding_32;
+pub mod encoding_32;
+pub mod order_six_32;
+pub mod prediction_32;

@@ -1,0 +1,7 @@
+// The coders at 8 bits: each module is the copy of the 16-bit crate of its name, written by tools/widths.
+pub mod bytewise_8;
+pub mod conv1_8;
+pub mod decoding_8;
+pub mod encoding_8;
+pub mod order_six_8;
+pub mod prediction_8;
