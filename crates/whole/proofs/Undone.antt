@@ -3,8 +3,8 @@
 -- Assumes nothing.
 use mathlib.Core.Path.{_≡_, sym, _∙_}
 use mathlib.Core.List.{List, [], _∷_}
-use Prim.Native.Nat.{ℕ, zero, suc, _+_, _-_, _%_, _^_, _≤_, _<_}
-use native.Mathlib.Nat.{add-zero, add-suc, mod-eq-of-lt, add-mod-right, mod-add-mod, two-pow-succ}
+use Prim.Native.Nat.{ℕ, zero, suc, _+_, _-_, _^_, _≤_, _<_}
+use native.Mathlib.Nat.{add-zero, add-suc, mod-eq-of-lt, add-mod-right, mod-add-mod}
 use native.Mathlib.Omega.{arith}
 use borrow.Author.Tests.{le-ltb}
 use lib.ListN.{length, getD, take, drop, length-drop}
@@ -13,17 +13,10 @@ use Rattle.rule.specs.Numbers.{centre}
 use Rattle.rule.specs.Coding.{window, toggled, residual, codedAt, encodedBuffer, restored, sampleOf, extended}
 use Rattle.rule.proofs.Filling.{length-tabulate, getD-tabulate}
 use Rattle.rule.proofs.Sums.{Samples}
+use Rattle.rule.proofs.Wrapping.{centre-twice}
 use Rattle.extending.proofs.Extending as extending
 
 -- ---- one sample
--- MID twice is nothing
-centre-twice : (W x : ℕ) → (x + (centre W + centre W)) % 2 ^ W ≡ x % 2 ^ W
-centre-twice zero x = omega arith
-centre-twice (suc W) x = rw (less, ← two-pow-succ) (add-mod-right x (2 ^ suc W))
-  where
-    less : suc W - 1 ≡ W
-    less = omega arith
-
 pub restored-residual : (W x y : ℕ) → x < 2 ^ W → y < 2 ^ W → restored W (residual W x y) y ≡ x
 unfolding restored residual toggled
 restored-residual W x y hx hy =

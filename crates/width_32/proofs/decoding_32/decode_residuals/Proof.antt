@@ -1,6 +1,6 @@
 -- The loop is `Residuals`'. Assumes nothing.
 use mathlib.Core.Path.{ap, _∙_}
-use Prim.Native.Nat.{_-_}
+use Prim.Native.Nat.{ℕ, _+_, _-_, _%_, _^_}
 use native.Mathlib.Omega.{arith}
 use borrow.Author.Needs.{needs}
 use lib.ListN.{length, getD, length-set}
@@ -8,7 +8,6 @@ use mir.Syntax.{w64 as acc}
 use mir.Val.{toZ, ofZ}
 use mir.Facts.{toZ-ofZ}
 use Rattle.rule.specs.Prediction.{prediction}
-use Rattle.rule.specs.Coding.{restored}
 use Rattle.decoding.proofs.Residuals as law
 use Rattle.width_32.proofs.decoding_32.decode_residuals.Statement.{statement}
 use Rattle.width_32.proofs.decoding_32.decode_residuals.Tie as tie
@@ -72,7 +71,7 @@ loop-again c =
     let p = prediction 32 (a .shift .0) (toZ acc (ofZ acc (a .bias))) (a .weights .now) in
     law.turn 32 k p (a .residuals .now) (l .residuals) (l .inv) (omega arith) (c .put-on .result)
     (c .put-on .ensures
-    ∙ ap (restored 32 (getD (l .residuals) (l .i) 0))
+    ∙ ap (λ (y : ℕ). (getD (l .residuals) (l .i) 0 + y) % 2 ^ 32)
     (c .before .before .predict-one .ensures ∙ ap p (law.part-window 32 k p (a .residuals .now) (l .residuals) (l .i) (l .inv .late))))
 
 same-length : tie.Need-same-length Inv-loop μ-loop

@@ -1,16 +1,21 @@
 -- The state and the residuals are laid in the array, decoded there and copied back: what comes of that is `Batches`' first part.
 -- Assumes nothing.
-use mathlib.Core.Path.{_≡_}
-use mathlib.Core.List.{_++_}
+use mathlib.Core.Path.{_≡_, ap, _∙_}
+use mathlib.Core.List.{List, _++_, map}
+use Prim.Native.Nat.{ℕ}
 use native.Mathlib.Omega.{arith}
 use borrow.Author.Needs.{needs}
 use lib.ListN.{length, take, drop, length-take}
 use mir.Facts.{toZ-ofZ}
 use Rattle.rule.specs.Prediction.{prediction}
-use Rattle.rule.specs.Coding.{extended}
+use Rattle.rule.specs.Coding.{toggled, extended}
+use Rattle.centre.proofs.Toggling.{all-twice}
 use Rattle.decoding.proofs.Batches as law
 use Rattle.width_8.proofs.decoding_8.decode_batch.Statement.{statement}
 use Rattle.width_8.proofs.decoding_8.decode_batch.Tie as tie
+
+toggle-center-in-place-requires : tie.Need-toggle-center-in-place-requires
+toggle-center-in-place-requires c κs = search needs
 
 add-end : tie.Need-add-end
 add-end c = search needs
@@ -72,17 +77,26 @@ same-length-3 c = search needs
 -- once the array is decoded
 module _ (c : tie.After-decode-residuals) where
   abbrev start : tie.Start
-  start = c .before .before .before .before .before .before .before .before .before .before .before .before .before .before .before
+  start = c .before .before .before .before .before .before .before .before .before .before .before .before .before .before .before .before .before .before .before
+
+  -- the residuals without MID
+  abbrev latents : List ℕ
+  latents = c .before .before .before .before .before .before .before .before .before .before .before .before .before .before .toggle-center-in-place .last .0
+
+  coded-is : map (toggled 8) latents ≡ start .args .latents .now
+  coded-is =
+      ap (map (toggled 8)) (c .before .before .before .before .before .before .before .before .before .before .before .before .before .before .toggle-center-in-place .ensures)
+      ∙ all-twice 8 (start .args .latents .now) (λ i. c .before .before .before .before .before .before .before .before .before .before .before .before .before .before .before .before .slice-known3 .given i .fits)
 
   decoded :
       c .decode-residuals .last .1 .1 .1 .0
       ≡ extended 8 (length (start .args .weights .now)) (prediction 8 (start .args .shift .0) (start .args .bias) (start .args .weights .now))
-      (take (length (start .args .weights .now)) (start .args .state .now ++ start .args .latents .now))
-      (drop (length (start .args .weights .now)) (start .args .state .now ++ start .args .latents .now))
+      (take (length (start .args .weights .now)) (start .args .state .now ++ latents))
+      (map (toggled 8) (drop (length (start .args .weights .now)) (start .args .state .now ++ latents)))
   decoded =
       rw (
         toZ-ofZ (start .fits .bias),
-        law.laid (start .args .state .now) (start .args .latents .now) (start .args .residuals .now) (c .before .before .before .before .before .before .before .before .before .copy .last .1 .0) (c .before .before .before .before .copy2 .last .1 .0)
+        law.laid (start .args .state .now) latents (start .args .residuals .now) (c .before .before .before .before .before .before .before .before .before .copy .last .1 .0) (c .before .before .before .before .copy2 .last .1 .0)
             (c .before .before .before .before .before .before .before .before .before .copy .ensures) (c .before .before .before .before .copy2 .ensures),
       ) at
       (c .decode-residuals .ensures)
@@ -95,14 +109,15 @@ returns c =
     let p = prediction 8 (a .shift .0) (a .bias) (a .weights .now) in
     let y = d .decode-residuals .last .1 .1 .1 .0 in
     record {
-      outputs-are = law.outputs-are 8 k p (a .state .now) (a .latents .now) y _ (start d .pre .0 .full) (decoded d) (c .before .before .before .before .before .before .before .before .copy3 .last .1 .0) (c .before .before .before .before .before .before .before .before .copy3 .ensures);
-      next-is = law.next-is 8 k p (a .state .now) (a .latents .now) y _ (start d .pre .0 .full) (decoded d) (c .before .before .copy4 .last .1 .0) (c .before .before .copy4 .ensures);
+      outputs-are = law.outputs-are 8 k p (a .state .now) (latents d) (a .latents .now) y _ (start d .pre .0 .full) (coded-is d) (decoded d) (c .before .before .before .before .before .before .before .before .copy3 .last .1 .0) (c .before .before .before .before .before .before .before .before .copy3 .ensures);
+      next-is = law.next-is 8 k p (a .state .now) (latents d) (a .latents .now) y _ (start d .pre .0 .full) (coded-is d) (decoded d) (c .before .before .copy4 .last .1 .0) (c .before .before .copy4 .ensures);
     }
 
 pub decode-batch-spec : {M : Type 1} → statement M
 decode-batch-spec =
     tie.close
     (tie.spec
+    toggle-center-in-place-requires
     add-end
     copy-requires
     sub-copy
