@@ -15,14 +15,14 @@
  *   1  the order is 0 or above 32; at the order-6 way, it is not 6
  *   2  the shift is A or more; A is 16, 32, 64 for samples of 8, 16, 32 bits
  *   3  |bias| + M * (sum of the |weights|) is above 2^(A-1)-1, M being the greatest sample
- *   4  the weights, or the places of the state, number other than the order; a byte length is no whole number of entries; the weights
+ *   4  the weights, or the places of the state, number other than the order; bytes do not divide into entries; the weights
  *      lent for reading a record number other than 32
  *   5  fewer samples than the order are to be encoded
  *   6  quantising gives no configuration
- *   7  the bytes end before or inside a field of the record
+ *   7  the record goes on where the bytes have ended
  *   8  the record's variant is unknown
  *   9  a record of order 0 and variant 1; a window log above 24; a state log above the window log
- *  10  a number to be written does not fit its field of the record
+ *  10  the record has no room in a field for the number to be written there
  *  11  the record's bytes do not fit the buffer
  *
  * Coding tests in the order 1, 2, 4, 3, 5; quantising 1, 4, 6; the record's tests are given with its functions.
@@ -79,7 +79,7 @@ uint32_t claspotter_decode_order_6_u32(size_t order, uint32_t shift, int64_t bia
     uint32_t *state, size_t state_len, uint32_t *piece, size_t piece_len);
 
 /* The same over bytes, for callers that hold no aligned slices: weights of 4 bytes, samples, residuals and states of W/8 bytes an
- * entry, little-endian; lengths are in bytes. A length that is no whole number of entries is refused with 4, in that test's turn. */
+ * entry, little-endian; lengths are in bytes. Bytes that do not divide into entries are refused with 4, in that test's turn. */
 uint32_t claspotter_encode_bytes_8(size_t order, uint32_t shift, int64_t bias, const uint8_t *weights, size_t weights_len,
     uint8_t *samples, size_t samples_len, uint8_t *state, size_t state_len);
 uint32_t claspotter_encode_bytes_16(size_t order, uint32_t shift, int64_t bias, const uint8_t *weights, size_t weights_len,

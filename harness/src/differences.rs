@@ -1,7 +1,7 @@
 //! The listed differences with the Rust, by name. Those that the comparison meets at random are told apart here by a rule on the
 //! input; tests/differences.rs has the smallest input of each.
 
-/// More than 512 samples that leave a last batch of 1 to k-1: the Rust takes too long a window and panics; the port encodes.
+/// More than 512 samples, of which the last batch has fewer than k: the Rust takes too long a window and panics; the port encodes.
 pub const SHORT_LAST_BATCH: &str = "encode: a last batch of 1 to k-1 samples panics in the Rust";
 
 pub fn short_last_batch(samples: usize, order: usize) -> bool {

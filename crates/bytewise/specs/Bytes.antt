@@ -1,5 +1,5 @@
--- Coding calls over bytes: samples are little-endian entries of W bits, weights of 32. A byte length that is no whole number of entries
--- is part of test 4: it is looked at after tests 1 and 2 and before the others, whichever slice has it.
+-- Coding calls over bytes: samples are little-endian entries of W bits, weights of 32. Bytes that do not divide into entries are a case
+-- of test 4: they are looked for after tests 1 and 2 and before the others, in every slice.
 use mathlib.Core.Bool.{Bool, not, _&&_}
 use mathlib.Core.List.{List}
 use Prim.Native.Nat.{ℕ, _/_}
