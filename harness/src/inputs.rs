@@ -129,6 +129,11 @@ pub fn shift<T: Sample>(s: &mut Source) -> u32 {
 /// A configuration that every test passes.
 pub fn good<T: Sample>(s: &mut Source) -> Owned {
     let order = order(s);
+    good_of::<T>(s, order)
+}
+
+/// The same, of a given order.
+pub fn good_of<T: Sample>(s: &mut Source, order: usize) -> Owned {
     let (bias, weights) = admitted::<T>(s, order);
     // Sums are large where weights are, so that small shifts are the telling ones there.
     Owned { order, shift: shift::<T>(s), bias, weights }

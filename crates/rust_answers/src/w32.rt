@@ -1,0 +1,61 @@
+// The port on 32-bit samples.
+use crate::coding::Config;
+use crate::sums::with_answer;
+use kinds::Order;
+use kinds::Shift;
+ghost use Prim.Native.Nat.{_≤_};
+
+// A number that is no sample loses its high bits, and the sum then differs.
+fn narrow(list: [u64; 1088]) -> [u32; 1088] {
+    let mut row: [u32; 1088] = [0; 1088];
+    let mut i = 0;
+    while i < 1088 {
+        row[i] = (list[i] % 4294967296) as u32;
+        i += 1;
+    }
+    row
+}
+
+fn wide(sample: u32) -> u64 {
+    sample as u64
+}
+
+fn with_row(before: u64, row: &[u32]) -> u64 {
+    let mut sum = before;
+    let mut i = 0;
+    while i < row.len() {
+        sum = crate::sums::with(sum, wide(row[i]));
+        i += 1;
+    }
+    sum
+}
+
+// A sum that goes on with the row, and then with the answer and the row after each of three calls: encoding; decoding of what came out,
+// from the saved state, by the way that a user calls; and decoding of what came out of that, from the state after it, by the general way.
+// A state needs no sum of its own, since the outputs of the next piece begin with it.
+fn chain(c: Config, weights: &[i32], before: u64, row: &mut [u32]) -> u64 {
+    let order = Order(c.order);
+    let shift = Shift(c.shift);
+    let bias = c.bias;
+    let given = with_row(before, row);
+    let encoded = width_32::encoding_32::encode_in_place(order, shift, bias, weights, row);
+    let answer = encoded.answer;
+    let saved = encoded.state;
+    let coded = with_row(with_answer(given, answer), row);
+    let decoded = width_32::conv1_32::decode_in_place(order, shift, bias, weights, saved, row);
+    let answer = decoded.answer;
+    let state = decoded.state;
+    let once = with_row(with_answer(coded, answer), row);
+    let again = width_32::decoding_32::decode_general(order, shift, bias, weights, state, row);
+    let answer = again.answer;
+    with_row(with_answer(once, answer), row)
+}
+
+pub fn code(c: Config, weights: [i32; 32], before: u64, list: [u64; 1088]) -> u64
+    requires { ⌜ (c .order ≤ 32) × (c .count ≤ 1088) ⌝ }
+{
+    let k = c.order;
+    let n = c.count;
+    let mut row = narrow(list);
+    chain(c, &weights[0..k], before, &mut row[0..n])
+}
