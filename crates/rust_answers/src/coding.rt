@@ -58,7 +58,7 @@ fn row_from(numbers: [u64; 256], from: usize) -> [u64; 1088]
 }
 
 // The weights, the row, and all that comes of it are kept.
-pub fn code(line: Line) -> bool {
+pub(crate) fn code(line: Line) -> bool {
     let numbers = line.numbers;
     let row = row_from(numbers, behind_weights(numbers));
     run(numbers, row) == crate::sums::kept(line, 6)
@@ -85,7 +85,7 @@ fn row_of(seed: u64) -> [u64; 1088] {
 }
 
 // A seed is kept for the row, and the sum for the rest.
-pub fn code_row(line: Line) -> bool {
+pub(crate) fn code_row(line: Line) -> bool {
     let numbers = line.numbers;
     let at = behind_weights(numbers);
     if line.count != at + 2 {

@@ -24,7 +24,7 @@ fn to_bits(word: Word) -> Found {
 }
 
 // A line with a word that is no number, or with numbers for every place, counts as an empty one.
-pub fn read_line(words: &[u8]) -> Line {
+pub(crate) fn read_line(words: &[u8]) -> Line {
     let mut numbers: [u64; 256] = [0; 256];
     let mut from = 0;
     let mut i = 0;

@@ -60,7 +60,7 @@ fn sum_of(done: Quantised, weights: [i32; 32], k: usize) -> u64 {
 }
 
 // Width, order, centre, the centred bias, the weights; what they give.
-pub fn quantise(line: Line) -> bool {
+pub(crate) fn quantise(line: Line) -> bool {
     let numbers = line.numbers;
     if limit(numbers[1]) <= numbers[3] {
         return false;

@@ -120,7 +120,7 @@ fn with_bytes(before: u64, bytes: [u8; 144], n: usize) -> u64 {
 }
 
 // 1 for files with variants, the number of bytes, the bytes, what they are read as.
-pub fn read(line: Line) -> bool {
+pub(crate) fn read(line: Line) -> bool {
     let numbers = line.numbers;
     let n = place(numbers[2]);
     if 144 < n {
@@ -155,7 +155,7 @@ fn encoding_from(numbers: [u64; 256]) -> DeltaEncoding {
 }
 
 // The fields, the number of weights, the weights, the answer, the bits written, the number of bytes, the bytes.
-pub fn write(line: Line) -> bool {
+pub(crate) fn write(line: Line) -> bool {
     let numbers = line.numbers;
     let k = slices::least(place(numbers[8]), 32);
     let weights = crate::casts::weights(numbers, 9);

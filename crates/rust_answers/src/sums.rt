@@ -17,15 +17,15 @@ fn with_half(sum: u64, x: u64) -> u64
 }
 
 // The sum with one number more: its low half and then its high half.
-pub fn with(sum: u64, x: u64) -> u64 {
+pub(crate) fn with(sum: u64, x: u64) -> u64 {
     with_half(with_half(sum, x), x / 4294967296)
 }
 
-pub fn with_answer(sum: u64, answer: Answer) -> u64 {
+pub(crate) fn with_answer(sum: u64, answer: Answer) -> u64 {
     with(sum, kinds::number(answer) as u64)
 }
 
-pub fn with_weights(before: u64, weights: [i32; 32], k: usize) -> u64 {
+pub(crate) fn with_weights(before: u64, weights: [i32; 32], k: usize) -> u64 {
     let end = slices::least(k, 32);
     let mut sum = before;
     let mut i = 0;
@@ -37,7 +37,7 @@ pub fn with_weights(before: u64, weights: [i32; 32], k: usize) -> u64 {
 }
 
 // What is kept: the sum of a line's numbers from a place on.
-pub fn kept(line: Line, from: usize) -> u64 {
+pub(crate) fn kept(line: Line, from: usize) -> u64 {
     let numbers = line.numbers;
     let end = slices::least(line.count, 256);
     let mut sum = EMPTY;

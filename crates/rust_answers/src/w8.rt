@@ -51,7 +51,7 @@ fn chain(c: Config, weights: &[i32], before: u64, row: &mut [u8]) -> u64 {
     with_row(with_answer(once, answer), row)
 }
 
-pub fn code(c: Config, weights: [i32; 32], before: u64, list: [u64; 1088]) -> u64
+pub(crate) fn code(c: Config, weights: [i32; 32], before: u64, list: [u64; 1088]) -> u64
     requires { ⌜ (c .order ≤ 32) × (c .count ≤ 1088) ⌝ }
 {
     let k = c.order;

@@ -47,7 +47,7 @@ pub enum Counted {
 }
 
 // M, the greatest sample of a width.
-pub fn greatest(width: u64) -> u64 {
+pub(crate) fn greatest(width: u64) -> u64 {
     match width {
         8 => 255,
         16 => 65535,
@@ -90,7 +90,7 @@ fn unread(wanted: Wanted, word: Word) -> Head {
     })
 }
 
-pub fn read_head(line: &[u8]) -> Head {
+pub(crate) fn read_head(line: &[u8]) -> Head {
     let first = text::next_word(line, 0);
     let Found::Number(width) = width_of(first) else {
         return unread(Wanted::Width, first);
@@ -118,7 +118,7 @@ pub fn read_head(line: &[u8]) -> Head {
 
 // The rest of the line, as many weights as there is room for. An order is at most 32, so that with more weights than 32 every coder
 // gives the same refusal, whatever they are and however many: one place more than that is room enough.
-pub fn read_weights(line: &[u8], from: usize, weights: &mut [i32]) -> Counted
+pub(crate) fn read_weights(line: &[u8], from: usize, weights: &mut [i32]) -> Counted
     ensures { λ r. ⌜ Counts r (length (now (weights .entry))) ⌝ }
 {
     let mut at = from;
@@ -156,7 +156,7 @@ fn ended(text: &[u8], from: usize, count: usize) -> Counted
 }
 
 // The rest of the text, samples up to `most`.
-pub fn read_trace(text: &[u8], from: usize, most: u64, values: &mut [u64]) -> Counted
+pub(crate) fn read_trace(text: &[u8], from: usize, most: u64, values: &mut [u64]) -> Counted
     ensures { λ r. ⌜ Counts r (length (now (values .entry))) ⌝ }
 {
     let mut at = from;

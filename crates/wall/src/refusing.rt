@@ -39,7 +39,7 @@ fn say_wanted(wanted: Wanted) {
 }
 
 // The text is no configuration and trace. No refusal has a number for that.
-pub fn say_fault(text: &[u8], fault: Fault) {
+pub(crate) fn say_fault(text: &[u8], fault: Fault) {
     say(b"refused (text): ");
     say_place(text, fault.at);
     let wanted = fault.wanted;
@@ -122,7 +122,12 @@ fn say_few(samples: usize, order: usize) {
 }
 
 // The coder's own answer.
-pub fn say_refusal(text: &[u8], configuration: Configuration, samples: usize, answer: Answer) {
+pub(crate) fn say_refusal(
+    text: &[u8],
+    configuration: Configuration,
+    samples: usize,
+    answer: Answer,
+) {
     let number = kinds::number(answer);
     let order = configuration.order.0;
     let width = configuration.width;

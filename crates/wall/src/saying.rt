@@ -6,15 +6,15 @@ ghost use Prim.Native.Nat.{_<_};
 // Numbers to a line, so that places can be counted.
 const ROW: usize = 10;
 
-pub fn say(words: &[u8]) {
+pub(crate) fn say(words: &[u8]) {
     io::write_all(STDOUT_FILENO, words);
 }
 
-pub fn say_number(n: u64) {
+pub(crate) fn say_number(n: u64) {
     io::print_decimal(STDOUT_FILENO, n);
 }
 
-pub fn say_signed(z: i64) {
+pub(crate) fn say_signed(z: i64) {
     if z < 0 {
         say(b"-");
     }
@@ -22,7 +22,7 @@ pub fn say_signed(z: i64) {
 }
 
 // The i-th number of a row, with what stands before it.
-pub fn say_entry(i: usize, n: u64) {
+pub(crate) fn say_entry(i: usize, n: u64) {
     if i % ROW == 0 {
         say(b"\n ");
     }
@@ -39,7 +39,7 @@ fn say_weights(weights: &[i32]) {
     }
 }
 
-pub fn say_configuration(configuration: Configuration, weights: &[i32], samples: usize) {
+pub(crate) fn say_configuration(configuration: Configuration, weights: &[i32], samples: usize) {
     say(b"configuration: samples of ");
     say_number(configuration.width);
     say(b" bits, order ");
@@ -56,14 +56,14 @@ pub fn say_configuration(configuration: Configuration, weights: &[i32], samples:
 }
 
 // The heading of the residuals. A residual of MID says that the prediction was right.
-pub fn say_residuals(middle: u64) {
+pub(crate) fn say_residuals(middle: u64) {
     say(b"residuals, sample - prediction + MID, where MID is ");
     say_number(middle);
     say(b"; places are counted from 0:\n");
 }
 
 // A piece's places in the trace.
-pub fn say_places(first: usize, count: usize) {
+pub(crate) fn say_places(first: usize, count: usize) {
     say(b"a piece of ");
     say_number(count as u64);
     say(b", from place ");
@@ -73,7 +73,7 @@ pub fn say_places(first: usize, count: usize) {
 
 // Sizes of pieces: 1, 2, 4 and so on up to 64. The first are shorter than most orders, the case in which a state is partly the
 // state before it; the last are as long as the pieces that a queue hands on.
-pub fn next_size(size: usize) -> usize
+pub(crate) fn next_size(size: usize) -> usize
     requires { ⌜ 0 < size ⌝ }
     ensures { λ r. ⌜ 0 < r ⌝ }
 {
@@ -81,7 +81,7 @@ pub fn next_size(size: usize) -> usize
 }
 
 // The verdict: `same` samples from the front on are those of the trace.
-pub fn say_verdict(same: usize, samples: usize) {
+pub(crate) fn say_verdict(same: usize, samples: usize) {
     if same < samples {
         say(b"NOT WHOLE: the first difference is at place ");
         say_number(same as u64);
