@@ -1,18 +1,7 @@
-//! Finds the port's archive, says which groups of functions it exports, and has it linked.
+//! Finds the port's archive and has it linked.
 
+use std::env;
 use std::path::PathBuf;
-use std::{env, fs};
-
-#[path = "src/archive.rs"]
-mod archive;
-
-/// A group of exported functions, and one name that tells that the group is there. The comparison leaves out what the archive at
-/// hand does not export, and says so.
-const GROUPS: &[(&str, &str)] = &[
-    ("port_bytes", "claspotter_encode_bytes_8"),
-    ("port_quantise", "claspotter_quantise_8"),
-    ("port_record", "claspotter_read_record"),
-];
 
 fn main() {
     println!("cargo:rerun-if-env-changed=CLASPOTTER_ARCHIVE");
@@ -25,15 +14,7 @@ fn main() {
     let header = named("CLASPOTTER_HEADER", "include/claspotter.h");
     println!("cargo:rerun-if-changed={}", library.display());
 
-    let bytes = fs::read(&library).unwrap_or_else(|e| panic!("{}: {e}; harness/run makes the archive", library.display()));
-    let symbols = archive::symbols(&bytes).expect("the archive's list of symbols");
-    for (group, function) in GROUPS {
-        println!("cargo:rustc-check-cfg=cfg({group})");
-        if symbols.iter().any(|s| s == function) {
-            println!("cargo:rustc-cfg={group}");
-        }
-    }
-
+    assert!(library.is_file(), "{} is not there; harness/run makes it", library.display());
     let name = library.file_stem().unwrap().to_str().unwrap().trim_start_matches("lib").to_string();
     println!("cargo:rustc-link-search=native={}", library.parent().unwrap().display());
     println!("cargo:rustc-link-lib=static={name}");

@@ -354,12 +354,8 @@ pub fn run(turns: usize, file: Option<PathBuf>) {
     black_box(crate::pad());
     table(times, "Typed slices, 2^20 samples in one call.", Form::Typed, SAMPLES, turns);
     table(times, "Typed slices, pieces of 64 samples.", Form::Typed, PIECE, turns);
-    if cfg!(port_bytes) {
-        table(times, "Byte slices against the Rust's typed slices, 2^20 samples in one call.", Form::Bytes, SAMPLES, turns);
-        table(times, "Byte slices against the Rust's typed slices, pieces of 64 samples.", Form::Bytes, PIECE, turns);
-    } else {
-        println!("\nByte slices: left out, since the archive does not export them.");
-    }
+    table(times, "Byte slices against the Rust's typed slices, 2^20 samples in one call.", Form::Bytes, SAMPLES, turns);
+    table(times, "Byte slices against the Rust's typed slices, pieces of 64 samples.", Form::Bytes, PIECE, turns);
     growth(times, turns);
     times.write();
 }

@@ -5,110 +5,56 @@
 use crate::port::{Config, Way};
 use crate::records::{Fields, Reading, Writing};
 
+/// Declares functions that code: all have one shape. Encoding is lent the samples and the state, decoding the state and the piece.
+macro_rules! coders {
+    ($weight: ty, $entry: ty, $($name: ident),*) => {
+        extern "C" {
+            $(fn $name(
+                order: usize,
+                shift: u32,
+                bias: i64,
+                weights: *const $weight,
+                weights_len: usize,
+                first: *mut $entry,
+                first_len: usize,
+                second: *mut $entry,
+                second_len: usize,
+            ) -> u32;)*
+        }
+    };
+}
+
+type Coder<Weight, Entry> =
+    unsafe extern "C" fn(usize, u32, i64, *const Weight, usize, *mut Entry, usize, *mut Entry, usize) -> u32;
+
+#[inline]
+fn call<Weight, Entry>(function: Coder<Weight, Entry>, c: &Config<Weight>, first: &mut [Entry], second: &mut [Entry]) -> u32 {
+    unsafe {
+        function(
+            c.order,
+            c.shift,
+            c.bias,
+            c.weights.as_ptr(),
+            c.weights.len(),
+            first.as_mut_ptr(),
+            first.len(),
+            second.as_mut_ptr(),
+            second.len(),
+        )
+    }
+}
+
 macro_rules! coding {
     ($module: ident, $t: ident, $encode: ident, $decode: ident, $general: ident, $six: ident, $admits: ident,
      $encode_bytes: ident, $decode_bytes: ident, $general_bytes: ident, $six_bytes: ident, $quantise: ident) => {
         pub mod $module {
             use super::*;
 
+            coders!(i32, $t, $encode, $decode, $general, $six);
+            coders!(u8, u8, $encode_bytes, $decode_bytes, $general_bytes, $six_bytes);
+
             extern "C" {
-                fn $encode(
-                    order: usize,
-                    shift: u32,
-                    bias: i64,
-                    weights: *const i32,
-                    weights_len: usize,
-                    samples: *mut $t,
-                    samples_len: usize,
-                    state: *mut $t,
-                    state_len: usize,
-                ) -> u32;
-                fn $decode(
-                    order: usize,
-                    shift: u32,
-                    bias: i64,
-                    weights: *const i32,
-                    weights_len: usize,
-                    state: *mut $t,
-                    state_len: usize,
-                    piece: *mut $t,
-                    piece_len: usize,
-                ) -> u32;
-                fn $general(
-                    order: usize,
-                    shift: u32,
-                    bias: i64,
-                    weights: *const i32,
-                    weights_len: usize,
-                    state: *mut $t,
-                    state_len: usize,
-                    piece: *mut $t,
-                    piece_len: usize,
-                ) -> u32;
-                fn $six(
-                    order: usize,
-                    shift: u32,
-                    bias: i64,
-                    weights: *const i32,
-                    weights_len: usize,
-                    state: *mut $t,
-                    state_len: usize,
-                    piece: *mut $t,
-                    piece_len: usize,
-                ) -> u32;
                 fn $admits(bias: i64, weights: *const i32, weights_len: usize) -> u32;
-            }
-
-            #[cfg(port_bytes)]
-            extern "C" {
-                fn $encode_bytes(
-                    order: usize,
-                    shift: u32,
-                    bias: i64,
-                    weights: *const u8,
-                    weights_len: usize,
-                    samples: *mut u8,
-                    samples_len: usize,
-                    state: *mut u8,
-                    state_len: usize,
-                ) -> u32;
-                fn $decode_bytes(
-                    order: usize,
-                    shift: u32,
-                    bias: i64,
-                    weights: *const u8,
-                    weights_len: usize,
-                    state: *mut u8,
-                    state_len: usize,
-                    piece: *mut u8,
-                    piece_len: usize,
-                ) -> u32;
-                fn $general_bytes(
-                    order: usize,
-                    shift: u32,
-                    bias: i64,
-                    weights: *const u8,
-                    weights_len: usize,
-                    state: *mut u8,
-                    state_len: usize,
-                    piece: *mut u8,
-                    piece_len: usize,
-                ) -> u32;
-                fn $six_bytes(
-                    order: usize,
-                    shift: u32,
-                    bias: i64,
-                    weights: *const u8,
-                    weights_len: usize,
-                    state: *mut u8,
-                    state_len: usize,
-                    piece: *mut u8,
-                    piece_len: usize,
-                ) -> u32;
-            }
-
-            #[cfg(port_quantise)]
-            extern "C" {
                 fn $quantise(
                     order: usize,
                     floats: *const f64,
@@ -124,40 +70,29 @@ macro_rules! coding {
 
             #[inline]
             pub fn encode(c: &Config, samples: &mut [$t], state: &mut [$t]) -> u32 {
-                unsafe {
-                    $encode(
-                        c.order,
-                        c.shift,
-                        c.bias,
-                        c.weights.as_ptr(),
-                        c.weights.len(),
-                        samples.as_mut_ptr(),
-                        samples.len(),
-                        state.as_mut_ptr(),
-                        state.len(),
-                    )
-                }
+                call($encode, c, samples, state)
             }
 
             #[inline]
             pub fn decode(way: Way, c: &Config, state: &mut [$t], piece: &mut [$t]) -> u32 {
-                let function = match way {
-                    Way::Chosen => $decode,
-                    Way::General => $general,
-                    Way::OrderSix => $six,
-                };
-                unsafe {
-                    function(
-                        c.order,
-                        c.shift,
-                        c.bias,
-                        c.weights.as_ptr(),
-                        c.weights.len(),
-                        state.as_mut_ptr(),
-                        state.len(),
-                        piece.as_mut_ptr(),
-                        piece.len(),
-                    )
+                match way {
+                    Way::Chosen => call($decode, c, state, piece),
+                    Way::General => call($general, c, state, piece),
+                    Way::OrderSix => call($six, c, state, piece),
+                }
+            }
+
+            #[inline]
+            pub fn encode_bytes(c: &Config<u8>, samples: &mut [u8], state: &mut [u8]) -> u32 {
+                call($encode_bytes, c, samples, state)
+            }
+
+            #[inline]
+            pub fn decode_bytes(way: Way, c: &Config<u8>, state: &mut [u8], piece: &mut [u8]) -> u32 {
+                match way {
+                    Way::Chosen => call($decode_bytes, c, state, piece),
+                    Way::General => call($general_bytes, c, state, piece),
+                    Way::OrderSix => call($six_bytes, c, state, piece),
                 }
             }
 
@@ -165,59 +100,7 @@ macro_rules! coding {
                 unsafe { $admits(bias, weights.as_ptr(), weights.len()) }
             }
 
-            #[cfg(port_bytes)]
-            #[inline]
-            pub fn encode_bytes(c: &Config<u8>, samples: &mut [u8], state: &mut [u8]) -> u32 {
-                unsafe {
-                    $encode_bytes(
-                        c.order,
-                        c.shift,
-                        c.bias,
-                        c.weights.as_ptr(),
-                        c.weights.len(),
-                        samples.as_mut_ptr(),
-                        samples.len(),
-                        state.as_mut_ptr(),
-                        state.len(),
-                    )
-                }
-            }
-
-            #[cfg(port_bytes)]
-            #[inline]
-            pub fn decode_bytes(way: Way, c: &Config<u8>, state: &mut [u8], piece: &mut [u8]) -> u32 {
-                let function = match way {
-                    Way::Chosen => $decode_bytes,
-                    Way::General => $general_bytes,
-                    Way::OrderSix => $six_bytes,
-                };
-                unsafe {
-                    function(
-                        c.order,
-                        c.shift,
-                        c.bias,
-                        c.weights.as_ptr(),
-                        c.weights.len(),
-                        state.as_mut_ptr(),
-                        state.len(),
-                        piece.as_mut_ptr(),
-                        piece.len(),
-                    )
-                }
-            }
-
-            #[cfg(not(port_bytes))]
-            pub fn encode_bytes(_: &Config<u8>, _: &mut [u8], _: &mut [u8]) -> u32 {
-                unreachable!("not exported")
-            }
-
-            #[cfg(not(port_bytes))]
-            pub fn decode_bytes(_: Way, _: &Config<u8>, _: &mut [u8], _: &mut [u8]) -> u32 {
-                unreachable!("not exported")
-            }
-
             /// The answer, the shift and the bias; the weights fill the lent slice.
-            #[cfg(port_quantise)]
             pub fn quantise(order: usize, floats: &[f64], centred_bias: f64, centre: $t, weights: &mut [i32]) -> (u32, u32, i64) {
                 let (mut shift, mut bias) = (u32::MAX, i64::MAX);
                 let answer = unsafe {
@@ -234,11 +117,6 @@ macro_rules! coding {
                     )
                 };
                 (answer, shift, bias)
-            }
-
-            #[cfg(not(port_quantise))]
-            pub fn quantise(_: usize, _: &[f64], _: f64, _: $t, _: &mut [i32]) -> (u32, u32, i64) {
-                unreachable!("not exported")
             }
         }
     };
@@ -287,7 +165,6 @@ coding!(
     claspotter_quantise_32
 );
 
-#[cfg(port_record)]
 mod record {
     use super::*;
 
@@ -369,19 +246,6 @@ mod record {
             )
         };
         Writing { answer, bits }
-    }
-}
-
-#[cfg(not(port_record))]
-mod record {
-    use super::*;
-
-    pub fn read_record(_: &[u8], _: bool, _: &mut [i32]) -> Reading {
-        unreachable!("not exported")
-    }
-
-    pub fn write_record(_: &Fields, _: &[i32], _: &mut [u8]) -> Writing {
-        unreachable!("not exported")
     }
 }
 

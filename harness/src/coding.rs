@@ -41,6 +41,23 @@ impl<T: Sample> Fenced<T> {
     }
 }
 
+/// Holds a call's answer, and what it left in its two lent slices and around them, against what is right.
+fn judge<T: Sample>(
+    tally: &mut Tally,
+    kind: &'static str,
+    (number, first, second): (u32, &[T], &[T]),
+    answer: u32,
+    (lent_first, lent_second): (&Fenced<T>, &Fenced<T>),
+    call: impl Fn() -> String,
+) {
+    tally.call(kind);
+    let left = lent_first.content() == first && lent_second.content() == second;
+    let held = answer == number && left && lent_first.stands() && lent_second.stands();
+    tally.holds(kind, held, || {
+        format!("W={} {}: right {number} {first:?} {second:?}, port {answer} {:?} {:?}", T::W, call(), lent_first.0, lent_second.0)
+    });
+}
+
 /// One round: a configuration at width T, coded and decoded in every way, or refused.
 pub fn round<T: Sample, P: Port>(port: &P, s: &mut Source, tally: &mut Tally) {
     if s.one_in(4) {
@@ -117,22 +134,10 @@ fn encode<T: Sample, P: Port>(
 
     let (mut lent_samples, mut lent_state) = (Fenced::new(samples), Fenced::new(before));
     let answer = port.encode(&lent, lent_samples.lent(), lent_state.lent());
-    tally.call(kind);
-    let held = answer == number
-        && lent_samples.content() == buffer
-        && lent_state.content() == state
-        && lent_samples.stands()
-        && lent_state.stands();
-    tally.holds(kind, held, || {
-        format!(
-            "W={} {c:?} samples {samples:?}: right {number} {buffer:?} {state:?}, port {answer} {:?} {:?}",
-            T::W,
-            lent_samples.0,
-            lent_state.0
-        )
-    });
+    let lent_slices = (&lent_samples, &lent_state);
+    judge(tally, kind, (number, buffer, state), answer, lent_slices, || format!("{c:?} samples {samples:?}"));
 
-    if port.has_bytes() && s.one_in(3) {
+    if s.one_in(3) {
         encode_bytes(port, s, tally, c, samples, before, (number, buffer, state));
     }
     right
@@ -161,17 +166,9 @@ fn encode_bytes<T: Sample, P: Port>(
     let config = Config { order: c.order, shift: c.shift, bias: c.bias, weights: &weights[..] };
     let (mut lent_samples, mut lent_state) = (Fenced::new(&samples_in), Fenced::new(&state_in));
     let answer = port.encode_bytes::<T>(&config, lent_samples.lent(), lent_state.lent());
-    tally.call(kind);
-    let held = answer == right
-        && lent_samples.content() == samples_out
-        && lent_state.content() == state_out
-        && lent_samples.stands()
-        && lent_state.stands();
-    tally.holds(kind, held, || {
-        format!(
-            "W={} {config:?} samples {samples_in:?} state {state_in:?}: right {right} {samples_out:?} {state_out:?}, port {answer} {:?} {:?}",
-            T::W, lent_samples.0, lent_state.0
-        )
+    let lent_slices = (&lent_samples, &lent_state);
+    judge(tally, kind, (right, &samples_out[..], &state_out[..]), answer, lent_slices, || {
+        format!("as bytes of W={} {config:?} samples {samples_in:?} state {state_in:?}", T::W)
     });
 }
 
@@ -265,22 +262,10 @@ fn decode<T: Sample, P: Port>(
 
     let (mut lent_piece, mut lent_state) = (Fenced::new(piece), Fenced::new(before));
     let answer = port.decode(way, &lent, lent_state.lent(), lent_piece.lent());
-    tally.call(kind);
-    let held = answer == number
-        && lent_piece.content() == out
-        && lent_state.content() == after
-        && lent_piece.stands()
-        && lent_state.stands();
-    tally.holds(kind, held, || {
-        format!(
-            "W={} {c:?} state {before:?} piece {piece:?}: right {number} {out:?} {after:?}, port {answer} {:?} {:?}",
-            T::W,
-            lent_piece.0,
-            lent_state.0
-        )
-    });
+    let lent_slices = (&lent_piece, &lent_state);
+    judge(tally, kind, (number, &out[..], &after[..]), answer, lent_slices, || format!("{c:?} state {before:?} piece {piece:?}"));
 
-    if port.has_bytes() && s.one_in(3) {
+    if s.one_in(3) {
         decode_bytes(port, s, tally, way, c, before, piece, (number, &out, &after));
     }
     (out, after)
@@ -310,17 +295,9 @@ fn decode_bytes<T: Sample, P: Port>(
     let config = Config { order: c.order, shift: c.shift, bias: c.bias, weights: &weights[..] };
     let (mut lent_piece, mut lent_state) = (Fenced::new(&piece_in), Fenced::new(&state_in));
     let answer = port.decode_bytes::<T>(way, &config, lent_state.lent(), lent_piece.lent());
-    tally.call(kind);
-    let held = answer == right
-        && lent_piece.content() == piece_out
-        && lent_state.content() == state_out
-        && lent_piece.stands()
-        && lent_state.stands();
-    tally.holds(kind, held, || {
-        format!(
-            "W={} {way:?} {config:?} state {state_in:?} piece {piece_in:?}: right {right} {piece_out:?} {state_out:?}, port {answer} {:?} {:?}",
-            T::W, lent_piece.0, lent_state.0
-        )
+    let lent_slices = (&lent_piece, &lent_state);
+    judge(tally, kind, (right, &piece_out[..], &state_out[..]), answer, lent_slices, || {
+        format!("as bytes of W={} {way:?} {config:?} state {state_in:?} piece {piece_in:?}", T::W)
     });
 }
 

@@ -11,30 +11,13 @@ pub const CASES: u64 = 4_000_000;
 /// After this many differences there is no sense in going on.
 const ENOUGH: usize = 20;
 
-/// What the archive at hand does not let compare.
-pub fn left_out() -> Vec<&'static str> {
-    let mut list = vec![];
-    if !cfg!(port_bytes) {
-        list.push("coding over bytes");
-    }
-    if !cfg!(port_quantise) {
-        list.push("quantising");
-    }
-    if !cfg!(port_record) {
-        list.push("records");
-    }
-    list
-}
-
 pub fn run<P: Port>(port: &P, s: &mut Source, cases: u64) -> Tally {
     let mut tally = Tally::default();
-    if cfg!(port_record) {
-        records::all_short(port, &mut tally);
-    }
+    records::all_short(port, &mut tally);
     for _ in 0..cases {
         match s.below(8) {
-            0 if cfg!(port_record) => records::round(port, s, &mut tally),
-            1 if cfg!(port_quantise) => match s.below(3) {
+            0 => records::round(port, s, &mut tally),
+            1 => match s.below(3) {
                 0 => quantising::round::<u8, P>(port, s, &mut tally),
                 1 => quantising::round::<u16, P>(port, s, &mut tally),
                 _ => quantising::round::<u32, P>(port, s, &mut tally),

@@ -18,9 +18,6 @@ fn main() -> ExitCode {
             };
             println!("archive: {}", bench::archive());
             println!("seed {seed}, {cases} cases");
-            for left_out in compare::left_out() {
-                println!("left out, since the archive does not export it: {left_out}");
-            }
             let tally = compare::run(&Archive, &mut Source::new(seed), cases);
             print!("{}", tally.report());
             if tally.differences() == 0 {

@@ -31,11 +31,6 @@ pub struct Quantised {
 }
 
 pub trait Port {
-    /// Whether it has the functions over bytes.
-    fn has_bytes(&self) -> bool {
-        cfg!(port_bytes)
-    }
-
     fn encode<T: Sample>(&self, c: &Config, samples: &mut [T], state: &mut [T]) -> u32 {
         T::port_encode(c, samples, state)
     }

@@ -6,7 +6,7 @@ use claspotter_harness::port::{Archive, Config, Port, Way};
 use claspotter_harness::quiet::unless_it_panics;
 use claspotter_harness::records::Fields;
 use claspotter_harness::width::Sample;
-use claspotter_harness::{compare, differences, model};
+use claspotter_harness::{differences, model};
 use original::doors;
 
 /// Whether this build of the Rust panics where its arithmetic overflows.
@@ -120,9 +120,6 @@ fn rust_quantised<T: Sample>(floats: &[f64], c: f64, centre: T) -> Option<Option
 
 #[test]
 fn the_rusts_logarithm_rounds_up_below_a_power_of_two() {
-    if compare::left_out().contains(&"quantising") {
-        return;
-    }
     assert_eq!(quantised(&[0.0], 126.99609375000001, 0u8), (0, 6, 8127, vec![0]));
     assert_eq!(rust_quantised(&[0.0], 126.99609375000001, 0u8), Some(Some((7, 16255))));
     assert_eq!(quantised(&[0.0], 126.99999994039537, 0u16).1, 22);
@@ -136,9 +133,6 @@ fn the_rusts_logarithm_rounds_up_below_a_power_of_two() {
 
 #[test]
 fn an_infinite_divisor_gives_the_rust_a_shift() {
-    if compare::left_out().contains(&"quantising") {
-        return;
-    }
     let greatest = if CHECKED { None } else { Some(Some((15, 0))) };
     assert_eq!(quantised(&[1e306], 0.0, 0u8), (6, 0, 0, vec![-1]));
     assert_eq!(rust_quantised(&[1e306], 0.0, 0u8), greatest);
@@ -150,9 +144,6 @@ fn an_infinite_divisor_gives_the_rust_a_shift() {
 
 #[test]
 fn the_rust_quantises_orders_0_and_33() {
-    if compare::left_out().contains(&"quantising") {
-        return;
-    }
     assert_eq!(quantised(&[], 0.0, 0u8), (1, 0, 0, vec![]));
     assert_eq!(rust_quantised(&[], 0.0, 0u8), Some(Some((13, 0))));
     assert_eq!(quantised(&[0.0; 33], 0.0, 0u8).0, 1);
@@ -184,9 +175,6 @@ fn written_anyway(fields: Fields, answer: u32, rust: &[u8]) {
 
 #[test]
 fn the_rust_writes_what_its_reader_refuses() {
-    if compare::left_out().contains(&"records") {
-        return;
-    }
     written_anyway(consecutive(0), 9, &[0x01]);
     written_anyway(lookback(25, 0), 9, &[0x82, 0x01]);
     written_anyway(lookback(1, 2), 9, &[0x02, 0x04]);
@@ -194,9 +182,6 @@ fn the_rust_writes_what_its_reader_refuses() {
 
 #[test]
 fn the_rust_writes_what_does_not_fit_its_field() {
-    if compare::left_out().contains(&"records") {
-        return;
-    }
     written_anyway(consecutive(8), 10, &[0x81]);
     written_anyway(lookback(24, 16), 10, &[0x72, 0x21]);
     written_anyway(conv1(1, 32), 10, &[0x03, 0x02, 0, 0, 0, 0, 0, 0, 0, 0x01, 0, 0, 0, 0x20]);
@@ -206,9 +191,6 @@ fn the_rust_writes_what_does_not_fit_its_field() {
 
 #[test]
 fn the_rust_subtracts_below_0_when_it_writes() {
-    if compare::left_out().contains(&"records") {
-        return;
-    }
     for (fields, answer, place, byte) in [(lookback(0, 0), 10, 1, 0xFF), (conv1(0, 0), 1, 9, 0xFF)] {
         let mut bytes = [0xFF; 142];
         assert_eq!(Archive.write_record(&fields, fields.own_weights(), &mut bytes).answer, answer);
@@ -222,9 +204,6 @@ fn the_rust_subtracts_below_0_when_it_writes() {
 
 #[test]
 fn the_reader_tells_refusals_apart_that_are_one_in_the_rust() {
-    if compare::left_out().contains(&"records") {
-        return;
-    }
     for (bytes, answer, rust) in [
         (&[0x04][..], 8, doors::ReadError::Corruption),
         (&[0x01], 9, doors::ReadError::Corruption),

@@ -1,11 +1,11 @@
 //! A comparison that sees nothing wrong is worth something only if it would have seen it: a fault is put in front of the port, and the
 //! comparison must fail. Each fault is small and rare.
 
+use claspotter_harness::compare;
 use claspotter_harness::inputs::Source;
 use claspotter_harness::port::{Archive, Config, Port, Quantised, Way};
 use claspotter_harness::records::{Fields, Reading, Writing};
-use claspotter_harness::width::{to_bytes, Sample};
-use claspotter_harness::{compare, model};
+use claspotter_harness::width::Sample;
 
 const CASES: u64 = 60_000;
 
@@ -115,9 +115,7 @@ impl Port for BiasTakenDown {
 
 #[test]
 fn a_bias_taken_down_is_caught() {
-    if !compare::left_out().contains(&"quantising") {
-        assert!(caught(&BiasTakenDown));
-    }
+    assert!(caught(&BiasTakenDown));
 }
 
 /// A reader that rounds its bits used up to whole bytes, and a writer that clears the byte behind the record.
@@ -179,61 +177,19 @@ impl Port for UnknownAsNothing {
 
 #[test]
 fn record_faults_are_caught() {
-    if !compare::left_out().contains(&"records") {
-        assert!(caught(&RecordFaults { bits: true }));
-        assert!(caught(&RecordFaults { bits: false }));
-        assert!(caught(&AnyNumberOfWeights { read: true }));
-        assert!(caught(&AnyNumberOfWeights { read: false }));
-        assert!(caught(&UnknownAsNothing));
-    }
+    assert!(caught(&RecordFaults { bits: true }));
+    assert!(caught(&RecordFaults { bits: false }));
+    assert!(caught(&AnyNumberOfWeights { read: true }));
+    assert!(caught(&AnyNumberOfWeights { read: false }));
+    assert!(caught(&UnknownAsNothing));
 }
 
-/// Functions over bytes that are made here from the typed ones, so that the comparison over bytes is tried whatever the archive exports;
-/// with a fault, two bytes of one entry change places.
-struct ThroughTyped {
-    fault: bool,
-}
-
-fn entries<T: Sample>(bytes: &[u8]) -> Vec<T> {
-    let number = |entry: &[u8]| entry.iter().rev().fold(0, |n, &b| n << 8 | b as u64);
-    bytes.chunks_exact(T::BYTES).map(|entry| T::from_u64(number(entry))).collect()
-}
-
-fn typed<'a>(c: &Config<u8>, weights: &'a [i32]) -> Config<'a> {
-    Config { order: c.order, shift: c.shift, bias: c.bias, weights }
-}
-
-impl Port for ThroughTyped {
-    fn has_bytes(&self) -> bool {
-        true
-    }
-
-    fn encode_bytes<T: Sample>(&self, c: &Config<u8>, samples: &mut [u8], state: &mut [u8]) -> u32 {
-        let weights: Vec<i32> = entries::<u32>(c.weights).into_iter().map(|w| w as i32).collect();
-        let c4 = typed(c, &weights);
-        let whole = c.weights.len() % 4 + samples.len() % T::BYTES + state.len() % T::BYTES == 0;
-        let (mut xs, mut st) = (entries::<T>(samples), entries::<T>(state));
-        if !whole {
-            return model::encoding_refusal(T::W, &c4, st.len(), xs.len(), false);
-        }
-        let answer = T::port_encode(&c4, &mut xs, &mut st);
-        samples.copy_from_slice(&to_bytes(&xs));
-        state.copy_from_slice(&to_bytes(&st));
-        answer
-    }
-
+/// Two bytes of one entry change places.
+struct SwappedBytes;
+impl Port for SwappedBytes {
     fn decode_bytes<T: Sample>(&self, way: Way, c: &Config<u8>, state: &mut [u8], piece: &mut [u8]) -> u32 {
-        let weights: Vec<i32> = entries::<u32>(c.weights).into_iter().map(|w| w as i32).collect();
-        let c4 = typed(c, &weights);
-        let whole = c.weights.len() % 4 + piece.len() % T::BYTES + state.len() % T::BYTES == 0;
-        let (mut xs, mut st) = (entries::<T>(piece), entries::<T>(state));
-        if !whole {
-            return model::decoding_refusal(T::W, way, &c4, st.len(), false);
-        }
-        let answer = T::port_decode(way, &c4, &mut st, &mut xs);
-        piece.copy_from_slice(&to_bytes(&xs));
-        state.copy_from_slice(&to_bytes(&st));
-        if self.fault && answer == 0 && T::W == 32 && piece.len() >= 64 {
+        let answer = T::port_decode_bytes(way, c, state, piece);
+        if answer == 0 && T::W == 32 && piece.len() >= 64 {
             piece.swap(60, 63);
         }
         answer
@@ -242,24 +198,15 @@ impl Port for ThroughTyped {
 
 #[test]
 fn swapped_bytes_are_caught() {
-    assert!(!caught(&ThroughTyped { fault: false }));
-    assert!(caught(&ThroughTyped { fault: true }));
+    assert!(caught(&SwappedBytes));
 }
 
 /// Ragged bytes that are let by.
 struct RaggedLetBy;
 impl Port for RaggedLetBy {
-    fn has_bytes(&self) -> bool {
-        true
-    }
-
     fn encode_bytes<T: Sample>(&self, c: &Config<u8>, samples: &mut [u8], state: &mut [u8]) -> u32 {
         let whole = samples.len() / T::BYTES * T::BYTES;
-        ThroughTyped { fault: false }.encode_bytes::<T>(c, &mut samples[..whole], state)
-    }
-
-    fn decode_bytes<T: Sample>(&self, way: Way, c: &Config<u8>, state: &mut [u8], piece: &mut [u8]) -> u32 {
-        ThroughTyped { fault: false }.decode_bytes::<T>(way, c, state, piece)
+        T::port_encode_bytes(c, &mut samples[..whole], state)
     }
 }
 
