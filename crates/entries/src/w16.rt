@@ -7,7 +7,7 @@ ghost use Rattle.entries.specs.Entries.{entryAt, withEntry, entries, byt
 
 const BYTES: usize = 16 / 8;
 
-pub fn read(bytes: &[u8], at: usize) -> u16
+pub(crate) fn read(bytes: &[u8], at: usize) -> u16
     requires { ⌜ at + 16 / 8 ≤ length (now bytes) ⌝ }
     ensures { λ r. ⌜ r ≡ entryAt (16 / 8) (now (bytes .entry)) at ⌝ }
 {

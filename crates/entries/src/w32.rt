@@ -7,7 +7,7 @@ ghost use Rattle.entries.specs.Entries.{entryAt, withEntry, entries, byt
 
 const BYTES: usize = 32 / 8;
 
-pub fn read(bytes: &[u8], at: usize) -> u32
+pub(crate) fn read(bytes: &[u8], at: usize) -> u32
     requires { ⌜ at + 32 / 8 ≤ length (now bytes) ⌝ }
     ensures { λ r. ⌜ r ≡ entryAt (32 / 8) (now (bytes .entry)) at ⌝ }
 {

@@ -7,7 +7,7 @@ ghost use Rattle.entries.specs.Entries.{entryAt, withEntry, entries, byt
 
 const BYTES: usize = 8 / 8;
 
-pub fn read(bytes: &[u8], at: usize) -> u8
+pub(crate) fn read(bytes: &[u8], at: usize) -> u8
     requires { ⌜ at + 8 / 8 ≤ length (now bytes) ⌝ }
     ensures { λ r. ⌜ r ≡ entryAt (8 / 8) (now (bytes .entry)) at ⌝ }
 {

@@ -47,7 +47,7 @@ fn bias_to_conv(bias: i64) -> Conv
 }
 
 // The bias and the weights at the accumulator's width, once a call's tests have passed.
-pub fn conv(bias: i64, weights: &[i32]) -> Config
+pub(crate) fn conv(bias: i64, weights: &[i32]) -> Config
     requires { ⌜ (length (now weights) ≤ 32) × (admitted 32 bias (now weights) ≡ true) ⌝ }
     ensures { λ r. ⌜ (r .bias ≡ bias) × (r .weights ≡ now (weights .entry) ++ replicate (32 - length (now (weights .entry))) (pos 0)) ⌝ }
 {
@@ -64,7 +64,7 @@ pub fn conv(bias: i64, weights: &[i32]) -> Config
 }
 
 // A number of the accumulator's in a register's width.
-pub fn widened(z: Conv) -> Wide
+pub(crate) fn widened(z: Conv) -> Wide
     requires { ⌜ SFits wide z ⌝ }
     ensures { λ r. ⌜ r ≡ z ⌝ }
 {
@@ -93,7 +93,7 @@ fn reduced(s: Bits) -> u32
 }
 
 // What becomes of a sum: nothing of it where it is negative.
-pub fn settle(s: Wide, shift: Shift) -> Prediction
+pub(crate) fn settle(s: Wide, shift: Shift) -> Prediction
     requires { ⌜ shift .0 < accumulator 32 ⌝ }
     ensures { λ r. ⌜ r .value ≡ rule.settle 32 (shift .0) s ⌝ }
 {
@@ -106,7 +106,7 @@ pub fn settle(s: Wide, shift: Shift) -> Prediction
 }
 
 // The prediction from a window that has a sample for each weight, the oldest first.
-pub fn predict_one(latents: &[u32], weights: &[Conv], bias: Conv, shift: Shift) -> Prediction
+pub(crate) fn predict_one(latents: &[u32], weights: &[Conv], bias: Conv, shift: Shift) -> Prediction
     requires { ⌜ (length (now latents) ≡ length (now weights)) × Ready 32 (shift .0) bias (now weights) ⌝ }
     ensures { λ r. ⌜ r .value ≡ prediction 32 (shift .0) bias (now (weights .entry)) (now (latents .entry)) ⌝ }
 {
@@ -120,7 +120,13 @@ pub fn predict_one(latents: &[u32], weights: &[Conv], bias: Conv, shift: Shift) 
 }
 
 // Fills `preds`: each place from its own window of `latents`, the first from the first samples. There is a sample after each window.
-pub fn predict_into(latents: &[u32], weights: &[Conv], bias: Conv, shift: Shift, preds: &mut [u32])
+pub(crate) fn predict_into(
+    latents: &[u32],
+    weights: &[Conv],
+    bias: Conv,
+    shift: Shift,
+    preds: &mut [u32],
+)
     requires { ⌜ (length (now preds) ≤ length (now latents) - length (now weights)) × Ready 32 (shift .0) bias (now weights) ⌝ }
     ensures { λ _. ⌜ now (preds .exit) ≡ tabulate (length (now (preds .entry))) (λ (i : ℕ). prediction 32 (shift .0) bias (now (weights .entry)) (window (length (now (weights .entry))) (i + length (now (weights .entry))) (now (latents .entry)))) ⌝ }
 {
