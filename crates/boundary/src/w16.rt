@@ -11,7 +11,7 @@ ghost use Rattle.kinds.specs.Answers.{numberOf, refuse};
 ghost use Rattle.rule.specs.Prediction.{admitted};
 ghost use Rattle.rule.specs.Refusals.{codingRefusal, encodingRefusal, orderSixRefusal};
 ghost use Rattle.boundary.specs.Calls.{configOf, samplesAfter, savedAfter, pieceAfter, stateAfter, bytesConfig, samplesBytesAfter, savedBytesAfter, pieceBytesAfter, stateBytesAfter};
-ghost use Rattle.bytewise.specs.Bytes.{ragged, codingBytes, orderSixBytes, encodingBytes};
+ghost use Rattle.layout.specs.Bytes.{ragged, codingBytes, orderSixBytes, encodingBytes};
 ghost use Rattle.quantising_lent.specs.Calls.{quantisedFrom, filledFrom};
 
 // The accumulator rule alone: 0 where it holds, 3 where it fails.
@@ -128,7 +128,14 @@ pub extern "C" fn claspotter_encode_bytes_16(
     ensures { λ _. ⌜ now (samples .exit) ≡ samplesBytesAfter 16 (bytesConfig order shift bias (now (weights .entry))) (encodingBytes 16 (bytesConfig order shift bias (now (weights .entry))) (ragged 16 (now (weights .entry)) (now (state .entry)) (now (samples .entry))) (now (state .entry)) (now (samples .entry))) (now (samples .entry)) ⌝ }
     ensures { λ _. ⌜ now (state .exit) ≡ savedBytesAfter 16 (bytesConfig order shift bias (now (weights .entry))) (encodingBytes 16 (bytesConfig order shift bias (now (weights .entry))) (ragged 16 (now (weights .entry)) (now (state .entry)) (now (samples .entry))) (now (state .entry)) (now (samples .entry))) (now (samples .entry)) (now (state .entry)) ⌝ }
 {
-    kinds::number(bytewise::w16::encode(Order(order), Shift(shift), bias, weights, samples, state))
+    kinds::number(byte_encoding::w16::encode(
+        Order(order),
+        Shift(shift),
+        bias,
+        weights,
+        samples,
+        state,
+    ))
 }
 
 // `claspotter_decode_u16` over bytes.
@@ -145,7 +152,14 @@ pub extern "C" fn claspotter_decode_bytes_16(
     ensures { λ _. ⌜ now (piece .exit) ≡ pieceBytesAfter 16 (bytesConfig order shift bias (now (weights .entry))) (codingBytes 16 (bytesConfig order shift bias (now (weights .entry))) (ragged 16 (now (weights .entry)) (now (state .entry)) (now (piece .entry))) (now (state .entry))) (now (state .entry)) (now (piece .entry)) ⌝ }
     ensures { λ _. ⌜ now (state .exit) ≡ stateBytesAfter 16 (bytesConfig order shift bias (now (weights .entry))) (codingBytes 16 (bytesConfig order shift bias (now (weights .entry))) (ragged 16 (now (weights .entry)) (now (state .entry)) (now (piece .entry))) (now (state .entry))) (now (state .entry)) (now (piece .entry)) ⌝ }
 {
-    kinds::number(bytewise::w16::decode(Order(order), Shift(shift), bias, weights, state, piece))
+    kinds::number(byte_decoding::w16::decode(
+        Order(order),
+        Shift(shift),
+        bias,
+        weights,
+        state,
+        piece,
+    ))
 }
 
 // `claspotter_decode_general_u16` over bytes.
@@ -162,7 +176,7 @@ pub extern "C" fn claspotter_decode_general_bytes_16(
     ensures { λ _. ⌜ now (piece .exit) ≡ pieceBytesAfter 16 (bytesConfig order shift bias (now (weights .entry))) (codingBytes 16 (bytesConfig order shift bias (now (weights .entry))) (ragged 16 (now (weights .entry)) (now (state .entry)) (now (piece .entry))) (now (state .entry))) (now (state .entry)) (now (piece .entry)) ⌝ }
     ensures { λ _. ⌜ now (state .exit) ≡ stateBytesAfter 16 (bytesConfig order shift bias (now (weights .entry))) (codingBytes 16 (bytesConfig order shift bias (now (weights .entry))) (ragged 16 (now (weights .entry)) (now (state .entry)) (now (piece .entry))) (now (state .entry))) (now (state .entry)) (now (piece .entry)) ⌝ }
 {
-    kinds::number(bytewise::w16::decode_general(
+    kinds::number(byte_decoding::w16::decode_general(
         Order(order),
         Shift(shift),
         bias,
@@ -186,7 +200,7 @@ pub extern "C" fn claspotter_decode_order_6_bytes_16(
     ensures { λ _. ⌜ now (piece .exit) ≡ pieceBytesAfter 16 (bytesConfig order shift bias (now (weights .entry))) (orderSixBytes 16 (bytesConfig order shift bias (now (weights .entry))) (ragged 16 (now (weights .entry)) (now (state .entry)) (now (piece .entry))) (now (state .entry))) (now (state .entry)) (now (piece .entry)) ⌝ }
     ensures { λ _. ⌜ now (state .exit) ≡ stateBytesAfter 16 (bytesConfig order shift bias (now (weights .entry))) (orderSixBytes 16 (bytesConfig order shift bias (now (weights .entry))) (ragged 16 (now (weights .entry)) (now (state .entry)) (now (piece .entry))) (now (state .entry))) (now (state .entry)) (now (piece .entry)) ⌝ }
 {
-    kinds::number(bytewise::w16::decode_order_6(
+    kinds::number(byte_decoding::w16::decode_order_6(
         Order(order),
         Shift(shift),
         bias,

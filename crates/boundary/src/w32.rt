@@ -11,7 +11,7 @@ ghost use Rattle.kinds.specs.Answers.{numberOf, refuse};
 ghost use Rattle.rule.specs.Prediction.{admitted};
 ghost use Rattle.rule.specs.Refusals.{codingRefusal, encodingRefusal, orderSixRefusal};
 ghost use Rattle.boundary.specs.Calls.{configOf, samplesAfter, savedAfter, pieceAfter, stateAfter, bytesConfig, samplesBytesAfter, savedBytesAfter, pieceBytesAfter, stateBytesAfter};
-ghost use Rattle.bytewise.specs.Bytes.{ragged, codingBytes, orderSixBytes, encodingBytes};
+ghost use Rattle.layout.specs.Bytes.{ragged, codingBytes, orderSixBytes, encodingBytes};
 ghost use Rattle.quantising_lent.specs.Calls.{quantisedFrom, filledFrom};
 
 // The accumulator rule alone: 0 where it holds, 3 where it fails.
@@ -135,7 +135,7 @@ pub extern "C" fn claspotter_encode_bytes_32(
     ensures { λ _. ⌜ now (samples .exit) ≡ samplesBytesAfter 32 (bytesConfig order shift bias (now (weights .entry))) (encodingBytes 32 (bytesConfig order shift bias (now (weights .entry))) (ragged 32 (now (weights .entry)) (now (state .entry)) (now (samples .entry))) (now (state .entry)) (now (samples .entry))) (now (samples .entry)) ⌝ }
     ensures { λ _. ⌜ now (state .exit) ≡ savedBytesAfter 32 (bytesConfig order shift bias (now (weights .entry))) (encodingBytes 32 (bytesConfig order shift bias (now (weights .entry))) (ragged 32 (now (weights .entry)) (now (state .entry)) (now (samples .entry))) (now (state .entry)) (now (samples .entry))) (now (samples .entry)) (now (state .entry)) ⌝ }
 {
-    kinds::number(width_32::bytewise_32::encode(
+    kinds::number(width_32::byte_encoding_32::encode(
         Order(order),
         Shift(shift),
         bias,
@@ -159,7 +159,7 @@ pub extern "C" fn claspotter_decode_bytes_32(
     ensures { λ _. ⌜ now (piece .exit) ≡ pieceBytesAfter 32 (bytesConfig order shift bias (now (weights .entry))) (codingBytes 32 (bytesConfig order shift bias (now (weights .entry))) (ragged 32 (now (weights .entry)) (now (state .entry)) (now (piece .entry))) (now (state .entry))) (now (state .entry)) (now (piece .entry)) ⌝ }
     ensures { λ _. ⌜ now (state .exit) ≡ stateBytesAfter 32 (bytesConfig order shift bias (now (weights .entry))) (codingBytes 32 (bytesConfig order shift bias (now (weights .entry))) (ragged 32 (now (weights .entry)) (now (state .entry)) (now (piece .entry))) (now (state .entry))) (now (state .entry)) (now (piece .entry)) ⌝ }
 {
-    kinds::number(width_32::bytewise_32::decode(
+    kinds::number(width_32::byte_decoding_32::decode(
         Order(order),
         Shift(shift),
         bias,
@@ -183,7 +183,7 @@ pub extern "C" fn claspotter_decode_general_bytes_32(
     ensures { λ _. ⌜ now (piece .exit) ≡ pieceBytesAfter 32 (bytesConfig order shift bias (now (weights .entry))) (codingBytes 32 (bytesConfig order shift bias (now (weights .entry))) (ragged 32 (now (weights .entry)) (now (state .entry)) (now (piece .entry))) (now (state .entry))) (now (state .entry)) (now (piece .entry)) ⌝ }
     ensures { λ _. ⌜ now (state .exit) ≡ stateBytesAfter 32 (bytesConfig order shift bias (now (weights .entry))) (codingBytes 32 (bytesConfig order shift bias (now (weights .entry))) (ragged 32 (now (weights .entry)) (now (state .entry)) (now (piece .entry))) (now (state .entry))) (now (state .entry)) (now (piece .entry)) ⌝ }
 {
-    kinds::number(width_32::bytewise_32::decode_general(
+    kinds::number(width_32::byte_decoding_32::decode_general(
         Order(order),
         Shift(shift),
         bias,
@@ -207,7 +207,7 @@ pub extern "C" fn claspotter_decode_order_6_bytes_32(
     ensures { λ _. ⌜ now (piece .exit) ≡ pieceBytesAfter 32 (bytesConfig order shift bias (now (weights .entry))) (orderSixBytes 32 (bytesConfig order shift bias (now (weights .entry))) (ragged 32 (now (weights .entry)) (now (state .entry)) (now (piece .entry))) (now (state .entry))) (now (state .entry)) (now (piece .entry)) ⌝ }
     ensures { λ _. ⌜ now (state .exit) ≡ stateBytesAfter 32 (bytesConfig order shift bias (now (weights .entry))) (orderSixBytes 32 (bytesConfig order shift bias (now (weights .entry))) (ragged 32 (now (weights .entry)) (now (state .entry)) (now (piece .entry))) (now (state .entry))) (now (state .entry)) (now (piece .entry)) ⌝ }
 {
-    kinds::number(width_32::bytewise_32::decode_order_6(
+    kinds::number(width_32::byte_decoding_32::decode_order_6(
         Order(order),
         Shift(shift),
         bias,

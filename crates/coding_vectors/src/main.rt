@@ -133,10 +133,10 @@ fn say_number(n: u64) {
 fn say_signed(z: i64) {
     if z < 0 {
         say(b" -");
-        io::print_decimal(STDOUT_FILENO, admission::magnitude(z));
+        io::print_decimal(STDOUT_FILENO, limits::magnitude(z));
         return;
     }
-    say_number(admission::magnitude(z));
+    say_number(limits::magnitude(z));
 }
 
 fn say_yes(whole: bool) {

@@ -271,10 +271,10 @@ fn quantise(width: Width, fitted: Fitted, centre: u32, weights: &mut [i32]) -> Q
     ensures { λ r. ⌜ (r ≡ quantised (bitsOf width) fitted centre (now (weights .entry))) × (now (weights .exit) ≡ filled (bitsOf width) fitted centre (now (weights .entry))) ⌝ }
 {
     let order = fitted.order;
-    if !admission::is_order(order) {
+    if !limits::is_order(order) {
         return refused(Answer::BadOrder);
     }
-    if !admission::is_length(order, SampleCount(weights.len())) {
+    if !limits::is_length(order, SampleCount(weights.len())) {
         return refused(Answer::BadLength);
     }
     let floats = fitted.weights;

@@ -20,10 +20,10 @@ ghost use Rattle.rule.specs.Refusals.{orderFits};
 fn fitted_answer(order: Order, count: SampleCount) -> Answer
     ensures { λ r. ⌜ r ≡ refuse (not (orderFits (order .0))) BadOrder (refuse (not (eqb (count .0) (order .0))) BadLength Done) ⌝ }
 {
-    if !admission::is_order(order) {
+    if !limits::is_order(order) {
         return Answer::BadOrder;
     }
-    if !admission::is_length(order, count) {
+    if !limits::is_length(order, count) {
         return Answer::BadLength;
     }
     Answer::Done

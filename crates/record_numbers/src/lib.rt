@@ -201,10 +201,10 @@ pub fn read(bytes: &[u8], variants: bool, weights: &mut [i32]) -> Readout
 fn conv1_answer(order: Order, weights: SampleCount) -> Answer
     ensures { λ r. ⌜ r ≡ conv1Refusal (order .0) (weights .0) ⌝ }
 {
-    if !admission::is_order(order) {
+    if !limits::is_order(order) {
         return Answer::BadOrder;
     }
-    if !admission::is_length(order, weights) {
+    if !limits::is_length(order, weights) {
         return Answer::BadLength;
     }
     Answer::Done

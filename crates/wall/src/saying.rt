@@ -18,7 +18,7 @@ pub(crate) fn say_signed(z: i64) {
     if z < 0 {
         say(b"-");
     }
-    say_number(admission::magnitude(z));
+    say_number(limits::magnitude(z));
 }
 
 // The i-th number of a row, with what stands before it.

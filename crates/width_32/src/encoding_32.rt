@@ -136,7 +136,7 @@ pub fn encode_in_place(
     ensures { λ r. ⌜ r .state .count .0 ≡ whenDone (r .answer) (order .0) 0 ⌝ }
 {
     let mut samples: [u32; 32] = [0; 32];
-    if !admission::is_order(order) {
+    if !limits::is_order(order) {
         return Encoded {
             answer: Answer::BadOrder,
             state: State32 {

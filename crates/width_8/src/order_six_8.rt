@@ -170,7 +170,7 @@ pub fn decode_order_6_into(
     ensures { λ r. ⌜ now (state .exit) ≡ whenDone r (newState 8 (order .0) (predictor 8 (config order shift bias (now (weights .entry)))) (now (state .entry)) (now (piece .entry))) (now (state .entry)) ⌝ }
 {
     let held = SampleCount(state.len());
-    let answer = order_six::order_six_answer(Width::Eight, order, shift, bias, weights, held);
+    let answer = admission::order_six_answer(Width::Eight, order, shift, bias, weights, held);
     if !kinds::is_done(answer) {
         return answer;
     }
@@ -192,7 +192,7 @@ pub fn decode_in_place_order_6(
     ensures state { λ r. ⌜ (r .state .samples ≡ whenDone (r .answer) (arrayAfter 8 (order .0) (predictor 8 (config order shift bias (now (weights .entry)))) (state .samples) (now (piece .entry))) (state .samples)) × (r .state .count ≡ state .count) ⌝ }
 {
     let count = state.count;
-    let answer = order_six::order_six_answer(Width::Eight, order, shift, bias, weights, count);
+    let answer = admission::order_six_answer(Width::Eight, order, shift, bias, weights, count);
     if !kinds::is_done(answer) {
         return Decoded { answer, state };
     }

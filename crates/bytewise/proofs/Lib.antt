@@ -1,3 +1,0 @@
-pub mod Lengths
-pub mod Chunks
-pub mod Coded

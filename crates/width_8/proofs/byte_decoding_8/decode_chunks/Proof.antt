@@ -1,0 +1,120 @@
+-- The loop is `Chunks`' second part. Assumes nothing.
+use mathlib.Core.Path.{_≡_, refl, sym, _∙_}
+use mathlib.Core.List.{List}
+use Prim.Native.Nat.{ℕ, _+_, _-_, _/_}
+use native.Mathlib.Omega.{arith}
+use borrow.Author.Needs.{needs}
+use lib.ListN.{length}
+use mir.Syntax.{w64}
+use mir.Val.{toZ, ofZ}
+use mir.Facts.{toZ-ofZ}
+use Rattle.rule.specs.Refusals.{config, predictor}
+use Rattle.rule.proofs.Passing.{coding-passed}
+use Rattle.byte_decoding.proofs.Chunks as law
+use Rattle.width_8.proofs.byte_decoding_8.decode_chunks.Statement.{statement}
+use Rattle.width_8.proofs.byte_decoding_8.decode_chunks.Tie as tie
+
+abbrev Inv-loop : tie.InvT-loop
+Inv-loop fast order shift bias weights state₀ piece₀ room₀ n start₀ state piece room start =
+    (length room ≡ 512) × law.Going 8 (8 / 8) (order .0) (predictor 8 (config order shift (toZ w64 bias) weights)) state₀ piece₀ state piece start
+
+abbrev μ-loop : tie.MeasureT-loop
+μ-loop fast order shift bias weights state₀ piece₀ room₀ n start₀ state piece room start = length piece₀ / (8 / 8) - start
+
+-- what holds at the start, in the terms of the laws
+module _ (s : tie.Start Inv-loop μ-loop) where
+  abbrev p : List ℕ → ℕ
+  p = predictor 8 (config (s .args .order) (s .args .shift) (toZ w64 (ofZ w64 (s .args .bias))) (s .args .weights .now))
+
+  full : length (s .args .state .now) ≡ s .args .order .0
+  full = coding-passed 8 _ _ (s .pre .0 .passes) .held
+
+loop-holds : tie.Need-loop-holds Inv-loop μ-loop
+loop-holds c =
+    let s = c .before .before in
+    (refl, law.begun 8 (8 / 8) (s .args .order .0) (p s) (s .args .state .now) (s .args .piece .now) (omega arith) (full s) (s .pre .1 .whole))
+
+sub-least : tie.Need-sub-least Inv-loop μ-loop
+sub-least c = omega arith
+
+least-requires : tie.Need-least-requires Inv-loop μ-loop
+least-requires c κs = search needs
+
+add-end : tie.Need-add-end Inv-loop μ-loop
+add-end c = omega arith
+
+mul-from : tie.Need-mul-from Inv-loop μ-loop
+mul-from c = omega arith
+
+mul-to : tie.Need-mul-to Inv-loop μ-loop
+mul-to c = omega arith
+
+slice-aggregate-decode-chunk : tie.Need-slice-aggregate-decode-chunk Inv-loop μ-loop
+slice-aggregate-decode-chunk c = search needs
+
+sub-decode-chunk : tie.Need-sub-decode-chunk Inv-loop μ-loop
+sub-decode-chunk c = omega arith
+
+part-decode-chunk-start : tie.Need-part-decode-chunk-start Inv-loop μ-loop
+part-decode-chunk-start c = search needs
+
+part-decode-chunk-end : tie.Need-part-decode-chunk-end Inv-loop μ-loop
+part-decode-chunk-end c = search needs
+
+decode-chunk-requires : tie.Need-decode-chunk-requires Inv-loop μ-loop
+decode-chunk-requires c κs =
+    let s = c .before .before .before .before .before .before .before .before in
+    let l = c .before .before .before .before .before .loop in
+    let end = l .start + c .before .before .before .least .result in
+    let long = law.chunk-long 8 (8 / 8) (s .args .order .0) (p s) (s .args .state .now) (s .args .piece .now) (omega arith) (full s) (s .pre .1 .whole) (l .inv .1) end (omega arith) (omega arith) in (
+      record { passes = rw (l .inv .1 .full ∙ sym (full s), toZ-ofZ (s .fits .bias)) (s .pre .0 .passes); six = s .pre .0 .six },
+      (record { whole = omega (arith, long) }, rw long (omega (arith, l .inv .0))),
+    )
+
+loop-less : tie.Need-loop-less Inv-loop μ-loop
+loop-less c = omega arith
+
+loop-again : tie.Need-loop-again Inv-loop μ-loop
+loop-again c =
+    let s = c .before .before .before .before .before .before .before .before .before .before .before .before .before .before in
+    let l = c .before .before .before .before .before .before .before .before .before .before .before .loop in
+    let d = c .before .before .before .before .before .decode-chunk in (
+      d .kept .1 .1 .1 .1 .1 .1 .0 ∙ l .inv .0,
+      law.turn 8 (8 / 8) (s .args .order .0) (p s) (s .args .state .now) (s .args .piece .now) (omega arith) (full s) (s .pre .1 .whole) (l .inv .1)
+          (l .start + c .before .before .before .before .before .before .before .before .before .least .result) (omega arith) (omega arith) (d .last .1 .1 .1 .1 .1 .1 .1 .0) (d .last .1 .1 .1 .1 .1 .0) (d .ensures .0) (d .ensures .1),
+    )
+
+same-length : tie.Need-same-length Inv-loop μ-loop
+same-length c = c .before .loop .inv .1 .full ∙ sym (full (c .before .before .before .before))
+
+same-length-2 : tie.Need-same-length-2 Inv-loop μ-loop
+same-length-2 c = c .before .loop .inv .1 .same
+
+returns : tie.Need-returns Inv-loop μ-loop
+returns c =
+    let s = c .before .before .before .before in
+    rw (toZ-ofZ (s .fits .bias)) at
+    (law.ended 8 (8 / 8) (s .args .order .0) (p s) (s .args .state .now) (s .args .piece .now) (omega arith) (full s) (s .pre .1 .whole) (c .before .loop .inv .1) (c .loop-test .left))
+
+pub decode-chunks-spec : {M : Type 1} → statement M
+decode-chunks-spec =
+    tie.close
+    (tie.spec
+    Inv-loop
+    μ-loop
+    loop-holds
+    sub-least
+    least-requires
+    add-end
+    mul-from
+    mul-to
+    slice-aggregate-decode-chunk
+    sub-decode-chunk
+    part-decode-chunk-start
+    part-decode-chunk-end
+    decode-chunk-requires
+    loop-less
+    loop-again
+    same-length
+    same-length-2
+    returns)
