@@ -1,4 +1,2 @@
 // The centre of a width and the wrapping sums around it. `w16` is the source of the other two: tools/widths.
 pub mod w16;
-pub mod w32;
-pub mod w8;

@@ -42,7 +42,7 @@ fn decode_residuals(weights: &[Conv], bias: Conv, shift: Shift, residuals: &mut 
             bias,
             shift,
         );
-        residuals[i] = centre::w32::put_on(residuals[i], prediction.value);
+        residuals[i] = crate::centre_32::put_on(residuals[i], prediction.value);
         i += 1;
     }
 }
@@ -60,7 +60,7 @@ fn decode_batch(
     requires { ⌜ Startable 32 (shift .0) bias (now weights) (now state) × (length (now state) + length (now latents) ≤ length (now residuals)) ⌝ }
     ensures { λ _. ⌜ Decodes 32 (shift .0) bias (now (weights .entry)) (now (state .entry)) (now (latents .entry)) (now (latents .exit)) (now (state .exit)) ⌝ }
 {
-    centre::w32::toggle_center_in_place(latents);
+    crate::centre_32::toggle_center_in_place(latents);
     let order = state.len();
     let count = latents.len();
     let end = order + count;

@@ -42,7 +42,7 @@ fn take_residuals(latents: &mut [u32], predictions: &[u32])
 {
     let mut i = 0;
     while i < latents.len() {
-        latents[i] = centre::w32::take_off(latents[i], predictions[i]);
+        latents[i] = crate::centre_32::take_off(latents[i], predictions[i]);
         i += 1;
     }
 }

@@ -1,6 +1,7 @@
 // The coders at 32 bits: each module is the copy of the 16-bit crate of its name, written by tools/widths.
 pub mod byte_decoding_32;
 pub mod byte_encoding_32;
+pub mod centre_32;
 pub mod conv1_32;
 pub mod decoding_32;
 pub mod encoding_32;

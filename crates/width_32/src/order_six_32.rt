@@ -124,7 +124,7 @@ fn decode_latents(
     requires { ⌜ Startable 32 (shift .0) bias (now weights) (now state) × (length (now weights) ≡ 6) ⌝ }
     ensures { λ _. ⌜ Decodes 32 (shift .0) bias (now (weights .entry)) (now (state .entry)) (now (latents .entry)) (now (latents .exit)) (now (state .exit)) ⌝ }
 {
-    centre::w32::toggle_center_in_place(latents);
+    crate::centre_32::toggle_center_in_place(latents);
     let six = six_of(weights);
     let first = crate::prediction_32::widened(bias);
     let mut running = begun(six, first, state);
@@ -133,7 +133,7 @@ fn decode_latents(
         let sums = running.sums;
         let samples = running.samples;
         let prediction = crate::prediction_32::settle(sums[0], shift);
-        let latent = centre::w32::put_on(latents[i], prediction.value);
+        let latent = crate::centre_32::put_on(latents[i], prediction.value);
         latents[i] = samples[0];
         running = next(running, six, first, latent);
         i += 1;

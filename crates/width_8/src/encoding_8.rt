@@ -42,7 +42,7 @@ fn take_residuals(latents: &mut [u8], predictions: &[u8])
 {
     let mut i = 0;
     while i < latents.len() {
-        latents[i] = centre::w8::take_off(latents[i], predictions[i]);
+        latents[i] = crate::centre_8::take_off(latents[i], predictions[i]);
         i += 1;
     }
 }

@@ -1,6 +1,7 @@
 // The coders at 8 bits: each module is the copy of the 16-bit crate of its name, written by tools/widths.
 pub mod byte_decoding_8;
 pub mod byte_encoding_8;
+pub mod centre_8;
 pub mod conv1_8;
 pub mod decoding_8;
 pub mod encoding_8;

@@ -118,7 +118,7 @@ fn decode_latents(weights: &[Conv], bias: Conv, shift: Shift, state: &mut [u8], 
     requires { ⌜ Startable 8 (shift .0) bias (now weights) (now state) × (length (now weights) ≡ 6) ⌝ }
     ensures { λ _. ⌜ Decodes 8 (shift .0) bias (now (weights .entry)) (now (state .entry)) (now (latents .entry)) (now (latents .exit)) (now (state .exit)) ⌝ }
 {
-    centre::w8::toggle_center_in_place(latents);
+    crate::centre_8::toggle_center_in_place(latents);
     let six = six_of(weights);
     let first = crate::prediction_8::widened(bias);
     let mut running = begun(six, first, state);
@@ -127,7 +127,7 @@ fn decode_latents(weights: &[Conv], bias: Conv, shift: Shift, state: &mut [u8], 
         let sums = running.sums;
         let samples = running.samples;
         let prediction = crate::prediction_8::settle(sums[0], shift);
-        let latent = centre::w8::put_on(latents[i], prediction.value);
+        let latent = crate::centre_8::put_on(latents[i], prediction.value);
         latents[i] = samples[0];
         running = next(running, six, first, latent);
         i += 1;

@@ -1,8 +1,8 @@
 -- The wrapping sum is the definition. Assumes nothing.
 use borrow.Author.Needs.{needs}
 use Rattle.rule.specs.Coding.{toggled}
-use Rattle.centre.proofs.w8.toggle_center.Statement.{statement}
-use Rattle.centre.proofs.w8.toggle_center.Tie as tie
+use Rattle.width_8.proofs.centre_8.toggle_center.Statement.{statement}
+use Rattle.width_8.proofs.centre_8.toggle_center.Tie as tie
 
 wrapping-add-u8-requires : tie.Need-wrapping-add-u8-requires
 wrapping-add-u8-requires c κs = search needs

@@ -3,8 +3,8 @@ use mathlib.Core.Path.{_∙_}
 use native.Mathlib.Omega.{arith}
 use borrow.Author.Needs.{needs}
 use Rattle.rule.proofs.Wrapping.{toggled-difference}
-use Rattle.centre.proofs.w32.take_off.Statement.{statement}
-use Rattle.centre.proofs.w32.take_off.Tie as tie
+use Rattle.width_32.proofs.centre_32.take_off.Statement.{statement}
+use Rattle.width_32.proofs.centre_32.take_off.Tie as tie
 
 wrapping-sub-u32-requires : tie.Need-wrapping-sub-u32-requires
 wrapping-sub-u32-requires c κs = search needs

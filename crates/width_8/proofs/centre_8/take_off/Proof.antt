@@ -3,8 +3,8 @@ use mathlib.Core.Path.{_∙_}
 use native.Mathlib.Omega.{arith}
 use borrow.Author.Needs.{needs}
 use Rattle.rule.proofs.Wrapping.{toggled-difference}
-use Rattle.centre.proofs.w8.take_off.Statement.{statement}
-use Rattle.centre.proofs.w8.take_off.Tie as tie
+use Rattle.width_8.proofs.centre_8.take_off.Statement.{statement}
+use Rattle.width_8.proofs.centre_8.take_off.Tie as tie
 
 wrapping-sub-u8-requires : tie.Need-wrapping-sub-u8-requires
 wrapping-sub-u8-requires c κs = search needs

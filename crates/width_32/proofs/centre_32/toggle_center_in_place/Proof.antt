@@ -6,12 +6,12 @@ use borrow.Author.Needs.{needs}
 use lib.ListN.{length, getD}
 use Rattle.rule.specs.Coding.{toggled}
 use Rattle.rule.proofs.Filling as filling
 use Rattle.centre.proofs.Toggling.{all-toggled}
-use Rattle.centre.proofs.w8.toggle_center_in_place.Statement.{statement}
-use Rattle.centre.proofs.w8.toggle_center_in_place.Tie as tie
+use Rattle.width_32.proofs.centre_32.toggle_center_in_place.Statement.{statement}
+use Rattle.width_32.proofs.centre_32.toggle_center_in_place.Tie as tie
 
 abbrev Inv-loop : tie.InvT-loop
-Inv-loop latents₀ i₀ latents i = filling.Filled (λ (j : ℕ). toggled 8 (getD latents₀ j 0)) latents₀ latents i
+Inv-loop latents₀ i₀ latents i = filling.Filled (λ (j : ℕ). toggled 32 (getD latents₀ j 0)) latents₀ latents i
 
 abbrev μ-loop : tie.MeasureT-loop
 μ-loop latents₀ i₀ latents i = length latents₀ - i
@@ -19,11 +19,19 @@ abbrev μ-loop : tie.MeasureT-loop
 loop-holds : tie.Need-loop-holds Inv-loop μ-loop
 loop-holds c = filling.fill-begin
 
+-- the place in bytes
+mul-toggle-center : tie.Need-mul-toggle-center Inv-loop μ-loop
+mul-toggle-center c = search needs
+
 slice-read-toggle-center : tie.Need-slice-read-toggle-center Inv-loop μ-loop
 slice-read-toggle-center c = search needs
 
 toggle-center-requires : tie.Need-toggle-center-requires Inv-loop μ-loop
 toggle-center-requires c κs = search needs
+
+-- the place in bytes
+mul-latents : tie.Need-mul-latents Inv-loop μ-loop
+mul-latents c = search needs
 
 slice-write-latents : tie.Need-slice-write-latents Inv-loop μ-loop
 slice-write-latents c = search needs
@@ -38,7 +46,7 @@ loop-again : tie.Need-loop-again Inv-loop μ-loop
 loop-again c =
     let l = c .before .before .before .loop in
     filling.fill-turn 0 (omega (arith, filling.fill-length (l .inv)))
-    (c .toggle-center .ensures ∙ ap (toggled 8) (filling.fill-rest (l .i) 0 (l .inv) (omega arith)))
+    (c .toggle-center .ensures ∙ ap (toggled 32) (filling.fill-rest (l .i) 0 (l .inv) (omega arith)))
     (l .inv)
 
 same-length : tie.Need-same-length Inv-loop μ-loop
@@ -47,7 +55,7 @@ same-length c = filling.fill-length (c .before .loop .inv)
 returns : tie.Need-returns Inv-loop μ-loop
 returns c =
     let l = c .before .loop in
-    filling.fill-end (l .inv) (omega (arith, filling.fill-length (l .inv))) ∙ all-toggled 8 (c .before .before .before .args .latents .now)
+    filling.fill-end (l .inv) (omega (arith, filling.fill-length (l .inv))) ∙ all-toggled 32 (c .before .before .before .args .latents .now)
 
 pub toggle-center-in-place-spec : {M : Type 1} → statement M
 toggle-center-in-place-spec =
@@ -56,8 +64,10 @@ toggle-center-in-place-spec =
     Inv-loop
     μ-loop
     loop-holds
+    mul-toggle-center
     slice-read-toggle-center
     toggle-center-requires
+    mul-latents
     slice-write-latents
     add-i
     loop-less

@@ -1,8 +1,8 @@
 -- The wrapping sum is the definition. Assumes nothing.
 use borrow.Author.Needs.{needs}
 use Rattle.rule.specs.Coding.{toggled}
-use Rattle.centre.proofs.w32.toggle_center.Statement.{statement}
-use Rattle.centre.proofs.w32.toggle_center.Tie as tie
+use Rattle.width_32.proofs.centre_32.toggle_center.Statement.{statement}
+use Rattle.width_32.proofs.centre_32.toggle_center.Tie as tie
 
 wrapping-add-u32-requires : tie.Need-wrapping-add-u32-requires
 wrapping-add-u32-requires c κs = search needs
