@@ -65,11 +65,18 @@ fn decode_one(
     general: bool,
 ) -> State16 {
     if general {
-        let done = decoding::w16::decode_general(order, shift, bias, weights, state, piece);
+        let done = decoding_by_value::w16::decode_general(
+            order,
+            shift,
+            bias,
+            weights,
+            state,
+            piece,
+        );
         let after = done.state;
         return after;
     }
-    let done = conv1::w16::decode_in_place(order, shift, bias, weights, state, piece);
+    let done = decoding_by_value::w16::decode_in_place(order, shift, bias, weights, state, piece);
     let after = done.state;
     after
 }
@@ -139,7 +146,7 @@ fn report(
 ) {
     fill(latents);
     crate::say_case(16, order, shift, bias, latents.len());
-    let done = encoding::w16::encode_in_place(order, shift, bias, weights, latents);
+    let done = encoding_by_value::w16::encode_in_place(order, shift, bias, weights, latents);
     let answer = done.answer;
     let state = done.state;
     let saved = state.samples;

@@ -65,11 +65,25 @@ fn decode_one(
     general: bool,
 ) -> State32 {
     if general {
-        let done = width_32::decoding_32::decode_general(order, shift, bias, weights, state, piece);
+        let done = width_32::decoding_by_value_32::decode_general(
+            order,
+            shift,
+            bias,
+            weights,
+            state,
+            piece,
+        );
         let after = done.state;
         return after;
     }
-    let done = width_32::conv1_32::decode_in_place(order, shift, bias, weights, state, piece);
+    let done = width_32::decoding_by_value_32::decode_in_place(
+        order,
+        shift,
+        bias,
+        weights,
+        state,
+        piece,
+    );
     let after = done.state;
     after
 }
@@ -139,7 +153,13 @@ fn report(
 ) {
     fill(latents);
     crate::say_case(32, order, shift, bias, latents.len());
-    let done = width_32::encoding_32::encode_in_place(order, shift, bias, weights, latents);
+    let done = width_32::encoding_by_value_32::encode_in_place(
+        order,
+        shift,
+        bias,
+        weights,
+        latents,
+    );
     let answer = done.answer;
     let state = done.state;
     let saved = state.samples;

@@ -65,11 +65,25 @@ fn decode_one(
     general: bool,
 ) -> State8 {
     if general {
-        let done = width_8::decoding_8::decode_general(order, shift, bias, weights, state, piece);
+        let done = width_8::decoding_by_value_8::decode_general(
+            order,
+            shift,
+            bias,
+            weights,
+            state,
+            piece,
+        );
         let after = done.state;
         return after;
     }
-    let done = width_8::conv1_8::decode_in_place(order, shift, bias, weights, state, piece);
+    let done = width_8::decoding_by_value_8::decode_in_place(
+        order,
+        shift,
+        bias,
+        weights,
+        state,
+        piece,
+    );
     let after = done.state;
     after
 }
@@ -139,7 +153,7 @@ fn report(
 ) {
     fill(latents);
     crate::say_case(8, order, shift, bias, latents.len());
-    let done = width_8::encoding_8::encode_in_place(order, shift, bias, weights, latents);
+    let done = width_8::encoding_by_value_8::encode_in_place(order, shift, bias, weights, latents);
     let answer = done.answer;
     let state = done.state;
     let saved = state.samples;

@@ -1,2 +1,1 @@
 pub mod Batches
-pub mod Handing

@@ -1,6 +1,6 @@
 // Decodes from states by value whose places past the order hold something, and whose counts are right or forged, with the table's T1 at 16
 // bits. A line has the count, the answer's number, the first four places of the state's array afterwards, its count, and the piece.
-use decoding::w16::Decoded;
+use decoding_by_value::w16::Decoded;
 use kinds::Order;
 use kinds::SampleCount;
 use kinds::Shift;
@@ -47,7 +47,14 @@ fn decode(count: usize) {
         count: SampleCount(count),
     };
     let mut piece: [u16; 1] = [32770];
-    let decoded = conv1::w16::decode_in_place(Order(1), Shift(0), 0, &weights, state, &mut piece);
+    let decoded = decoding_by_value::w16::decode_in_place(
+        Order(1),
+        Shift(0),
+        0,
+        &weights,
+        state,
+        &mut piece,
+    );
     say_number(count as u64);
     say_decoded(decoded, piece[0]);
 }

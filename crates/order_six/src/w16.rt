@@ -1,10 +1,8 @@
 // Decoding 16-bit samples at order 6.
-use decoding::w16::Decoded;
 use kinds::Answer;
 use kinds::Order;
 use kinds::SampleCount;
 use kinds::Shift;
-use kinds::State16;
 use kinds::Width;
 ghost use mathlib.Core.Path.{_≡_};
 ghost use mathlib.Core.Bool.{true};
@@ -13,9 +11,9 @@ ghost use lib.IntN.{pos, _+ℤ_, _*ℤ_};
 ghost use lib.ListN.{length, getD};
 ghost use mir.Syntax.{w32 as wide};
 ghost use mir.Val.{SFits};
-ghost use Rattle.kinds.specs.Answers.{isDone, whenDone};
+ghost use Rattle.kinds.specs.Answers.{whenDone};
 ghost use Rattle.rule.specs.Prediction.{admitted};
-ghost use Rattle.rule.specs.Coding.{decodedPiece, newState, pieceFrom, arrayAfter};
+ghost use Rattle.rule.specs.Coding.{decodedPiece, newState};
 ghost use Rattle.rule.specs.Refusals.{config, predictor, orderSixRefusal};
 ghost use Rattle.decoding.specs.Steps.{Startable, Decodes};
 ghost use Rattle.order_six.specs.Running.{six, Runs, shifted};
@@ -142,25 +140,6 @@ fn decode_latents(
     slices::w16::copy(&samples, state);
 }
 
-// Decodes where the tests have passed.
-fn decode_admitted(
-    order: Order,
-    shift: Shift,
-    bias: i64,
-    weights: &[i32],
-    state: &mut [u16],
-    piece: &mut [u16],
-)
-    requires { ⌜ isDone (orderSixRefusal 16 (config order shift bias (now weights)) (length (now state))) ≡ true ⌝ }
-    ensures { λ _. ⌜ now (piece .exit) ≡ decodedPiece 16 (order .0) (predictor 16 (config order shift bias (now (weights .entry)))) (now (state .entry)) (now (piece .entry)) ⌝ }
-    ensures { λ _. ⌜ now (state .exit) ≡ newState 16 (order .0) (predictor 16 (config order shift bias (now (weights .entry)))) (now (state .entry)) (now (piece .entry)) ⌝ }
-{
-    let k = order.0;
-    let config = prediction::w16::conv(bias, weights);
-    let wide = config.weights;
-    decode_latents(&wide[..k], config.bias, shift, state, piece);
-}
-
 // Decodes a piece in place from a state, as the general way does: outputs lag by 6, and the last six samples are the new state. The
 // state's length counts for test 4.
 pub fn decode_order_6_into(
@@ -180,33 +159,9 @@ pub fn decode_order_6_into(
     if !kinds::is_done(answer) {
         return answer;
     }
-    decode_admitted(order, shift, bias, weights, state, piece);
-    answer
-}
-
-// The same, with the state by value.
-pub fn decode_in_place_order_6(
-    order: Order,
-    shift: Shift,
-    bias: i64,
-    weights: &[i32],
-    state: State16,
-    piece: &mut [u16],
-) -> Decoded
-    ensures answer { λ r. ⌜ r .answer ≡ orderSixRefusal 16 (config order shift bias (now (weights .entry))) (state .count .0) ⌝ }
-    ensures piece { λ r. ⌜ now (piece .exit) ≡ whenDone (r .answer) (pieceFrom 16 (order .0) (predictor 16 (config order shift bias (now (weights .entry)))) (state .samples) (now (piece .entry))) (now (piece .entry)) ⌝ }
-    ensures state { λ r. ⌜ (r .state .samples ≡ whenDone (r .answer) (arrayAfter 16 (order .0) (predictor 16 (config order shift bias (now (weights .entry)))) (state .samples) (now (piece .entry))) (state .samples)) × (r .state .count ≡ state .count) ⌝ }
-{
-    let count = state.count;
-    let answer = admission::order_six_answer(Width::Sixteen, order, shift, bias, weights, count);
-    if !kinds::is_done(answer) {
-        return Decoded { answer, state };
-    }
     let k = order.0;
-    let mut samples = state.samples;
-    decode_admitted(order, shift, bias, weights, &mut samples[..k], piece);
-    Decoded {
-        answer,
-        state: State16 { samples, count },
-    }
+    let config = prediction::w16::conv(bias, weights);
+    let wide = config.weights;
+    decode_latents(&wide[..k], config.bias, shift, state, piece);
+    answer
 }

@@ -21,7 +21,7 @@ fn code(shift: Shift, bias: i64, order: Order, weights: [i32; 32]) {
         return;
     }
     let mut samples: [u8; 3] = [10, 12, 11];
-    let done = width_8::encoding_8::encode_in_place(
+    let done = width_8::encoding_by_value_8::encode_in_place(
         order,
         shift,
         bias,

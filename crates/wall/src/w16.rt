@@ -35,7 +35,14 @@ fn decode(
 ) -> State16 {
     let order = configuration.order;
     let shift = configuration.shift;
-    let done = conv1::w16::decode_in_place(order, shift, configuration.bias, weights, state, piece);
+    let done = decoding_by_value::w16::decode_in_place(
+        order,
+        shift,
+        configuration.bias,
+        weights,
+        state,
+        piece,
+    );
     let after = done.state;
     after
 }
@@ -130,7 +137,13 @@ fn code_copy(
 {
     let order = configuration.order;
     let shift = configuration.shift;
-    let done = encoding::w16::encode_in_place(order, shift, configuration.bias, weights, latents);
+    let done = encoding_by_value::w16::encode_in_place(
+        order,
+        shift,
+        configuration.bias,
+        weights,
+        latents,
+    );
     let answer = done.answer;
     let state = done.state;
     if kinds::is_done(answer) {

@@ -35,7 +35,7 @@ fn decode(
 ) -> State32 {
     let order = configuration.order;
     let shift = configuration.shift;
-    let done = width_32::conv1_32::decode_in_place(
+    let done = width_32::decoding_by_value_32::decode_in_place(
         order,
         shift,
         configuration.bias,
@@ -137,7 +137,7 @@ fn code_copy(
 {
     let order = configuration.order;
     let shift = configuration.shift;
-    let done = width_32::encoding_32::encode_in_place(
+    let done = width_32::encoding_by_value_32::encode_in_place(
         order,
         shift,
         configuration.bias,

@@ -35,7 +35,7 @@ fn decode(
 ) -> State8 {
     let order = configuration.order;
     let shift = configuration.shift;
-    let done = width_8::conv1_8::decode_in_place(
+    let done = width_8::decoding_by_value_8::decode_in_place(
         order,
         shift,
         configuration.bias,
@@ -137,7 +137,7 @@ fn code_copy(
 {
     let order = configuration.order;
     let shift = configuration.shift;
-    let done = width_8::encoding_8::encode_in_place(
+    let done = width_8::encoding_by_value_8::encode_in_place(
         order,
         shift,
         configuration.bias,

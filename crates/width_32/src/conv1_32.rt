@@ -1,13 +1,11 @@
 // Decoding 32-bit samples.
-use crate::decoding_32::Decoded;
 use kinds::Answer;
 use kinds::Order;
 use kinds::Shift;
-use kinds::State32;
 ghost use mathlib.Core.Path.{_≡_};
 ghost use lib.ListN.{length};
 ghost use Rattle.kinds.specs.Answers.{whenDone};
-ghost use Rattle.rule.specs.Coding.{decodedPiece, newState, pieceFrom, arrayAfter};
+ghost use Rattle.rule.specs.Coding.{decodedPiece, newState};
 ghost use Rattle.rule.specs.Refusals.{config, predictor, codingRefusal};
 
 // The order that has a way of its own.
@@ -31,30 +29,4 @@ pub fn decode_into(
         return crate::order_six_32::decode_order_6_into(order, shift, bias, weights, state, piece);
     }
     crate::decoding_32::decode_into(order, shift, bias, weights, state, piece)
-}
-
-// The same, with the state by value.
-pub fn decode_in_place(
-    order: Order,
-    shift: Shift,
-    bias: i64,
-    weights: &[i32],
-    state: State32,
-    piece: &mut [u32],
-) -> Decoded
-    ensures answer { λ r. ⌜ r .answer ≡ codingRefusal 32 (config order shift bias (now (weights .entry))) (state .count .0) ⌝ }
-    ensures piece { λ r. ⌜ now (piece .exit) ≡ whenDone (r .answer) (pieceFrom 32 (order .0) (predictor 32 (config order shift bias (now (weights .entry)))) (state .samples) (now (piece .entry))) (now (piece .entry)) ⌝ }
-    ensures state { λ r. ⌜ (r .state .samples ≡ whenDone (r .answer) (arrayAfter 32 (order .0) (predictor 32 (config order shift bias (now (weights .entry)))) (state .samples) (now (piece .entry))) (state .samples)) × (r .state .count ≡ state .count) ⌝ }
-{
-    if order.0 == OWN_WAY {
-        return crate::order_six_32::decode_in_place_order_6(
-            order,
-            shift,
-            bias,
-            weights,
-            state,
-            piece,
-        );
-    }
-    crate::decoding_32::decode_general(order, shift, bias, weights, state, piece)
 }

@@ -4,6 +4,8 @@ pub mod byte_encoding_32;
 pub mod centre_32;
 pub mod conv1_32;
 pub mod decoding_32;
+pub mod decoding_by_value_32;
 pub mod encoding_32;
+pub mod encoding_by_value_32;
 pub mod order_six_32;
 pub mod prediction_32;

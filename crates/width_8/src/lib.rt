@@ -4,6 +4,8 @@ pub mod byte_encoding_8;
 pub mod centre_8;
 pub mod conv1_8;
 pub mod decoding_8;
+pub mod decoding_by_value_8;
 pub mod encoding_8;
+pub mod encoding_by_value_8;
 pub mod order_six_8;
 pub mod prediction_8;

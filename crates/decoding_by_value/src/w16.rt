@@ -1,0 +1,105 @@
+// Decoding 16-bit samples with the state by value: the lent calls, on the places of the state's array that its count says.
+use kinds::Answer;
+use kinds::Order;
+use kinds::Shift;
+use kinds::State16;
+ghost use mathlib.Core.Path.{_≡_};
+ghost use Rattle.kinds.specs.Answers.{whenDone};
+ghost use Rattle.rule.specs.Coding.{pieceFrom, arrayAfter};
+ghost use Rattle.rule.specs.Refusals.{config, predictor, codingRefusal, orderSixRefusal};
+
+// What a decoding call gives back beside the piece: the state is the one for the piece that follows.
+pub struct Decoded {
+    pub answer: Answer,
+    pub state: State16,
+}
+
+// Decodes a piece in place, the general way.
+pub fn decode_general(
+    order: Order,
+    shift: Shift,
+    bias: i64,
+    weights: &[i32],
+    state: State16,
+    piece: &mut [u16],
+) -> Decoded
+    ensures answer { λ r. ⌜ r .answer ≡ codingRefusal 16 (config order shift bias (now (weights .entry))) (state .count .0) ⌝ }
+    ensures piece { λ r. ⌜ now (piece .exit) ≡ whenDone (r .answer) (pieceFrom 16 (order .0) (predictor 16 (config order shift bias (now (weights .entry)))) (state .samples) (now (piece .entry))) (now (piece .entry)) ⌝ }
+    ensures state { λ r. ⌜ (r .state .samples ≡ whenDone (r .answer) (arrayAfter 16 (order .0) (predictor 16 (config order shift bias (now (weights .entry)))) (state .samples) (now (piece .entry))) (state .samples)) × (r .state .count ≡ state .count) ⌝ }
+{
+    let count = state.count;
+    let places = crate::places_lent(count);
+    let mut samples = state.samples;
+    let answer = decoding::w16::decode_into(
+        order,
+        shift,
+        bias,
+        weights,
+        &mut samples[..places],
+        piece,
+    );
+    Decoded {
+        answer,
+        state: State16 { samples, count },
+    }
+}
+
+// The same, the order-6 way.
+pub fn decode_in_place_order_6(
+    order: Order,
+    shift: Shift,
+    bias: i64,
+    weights: &[i32],
+    state: State16,
+    piece: &mut [u16],
+) -> Decoded
+    ensures answer { λ r. ⌜ r .answer ≡ orderSixRefusal 16 (config order shift bias (now (weights .entry))) (state .count .0) ⌝ }
+    ensures piece { λ r. ⌜ now (piece .exit) ≡ whenDone (r .answer) (pieceFrom 16 (order .0) (predictor 16 (config order shift bias (now (weights .entry)))) (state .samples) (now (piece .entry))) (now (piece .entry)) ⌝ }
+    ensures state { λ r. ⌜ (r .state .samples ≡ whenDone (r .answer) (arrayAfter 16 (order .0) (predictor 16 (config order shift bias (now (weights .entry)))) (state .samples) (now (piece .entry))) (state .samples)) × (r .state .count ≡ state .count) ⌝ }
+{
+    let count = state.count;
+    let places = crate::places_lent(count);
+    let mut samples = state.samples;
+    let answer = order_six::w16::decode_order_6_into(
+        order,
+        shift,
+        bias,
+        weights,
+        &mut samples[..places],
+        piece,
+    );
+    Decoded {
+        answer,
+        state: State16 { samples, count },
+    }
+}
+
+// The same, by the quicker way where there is one.
+pub fn decode_in_place(
+    order: Order,
+    shift: Shift,
+    bias: i64,
+    weights: &[i32],
+    state: State16,
+    piece: &mut [u16],
+) -> Decoded
+    ensures answer { λ r. ⌜ r .answer ≡ codingRefusal 16 (config order shift bias (now (weights .entry))) (state .count .0) ⌝ }
+    ensures piece { λ r. ⌜ now (piece .exit) ≡ whenDone (r .answer) (pieceFrom 16 (order .0) (predictor 16 (config order shift bias (now (weights .entry)))) (state .samples) (now (piece .entry))) (now (piece .entry)) ⌝ }
+    ensures state { λ r. ⌜ (r .state .samples ≡ whenDone (r .answer) (arrayAfter 16 (order .0) (predictor 16 (config order shift bias (now (weights .entry)))) (state .samples) (now (piece .entry))) (state .samples)) × (r .state .count ≡ state .count) ⌝ }
+{
+    let count = state.count;
+    let places = crate::places_lent(count);
+    let mut samples = state.samples;
+    let answer = conv1::w16::decode_into(
+        order,
+        shift,
+        bias,
+        weights,
+        &mut samples[..places],
+        piece,
+    );
+    Decoded {
+        answer,
+        state: State16 { samples, count },
+    }
+}
