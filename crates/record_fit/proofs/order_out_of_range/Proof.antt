@@ -1,8 +1,8 @@
 -- `order_out_of_range` is the definition's range, turned round.
 use native.Mathlib.Omega.{arith}
 use borrow.Author.Tests.{le-leb, lt-leb}
-use Rattle.record_write.proofs.order_out_of_range.Statement.{statement}
-use Rattle.record_write.proofs.order_out_of_range.Tie as tie
+use Rattle.record_fit.proofs.order_out_of_range.Statement.{statement}
+use Rattle.record_fit.proofs.order_out_of_range.Tie as tie
 
 returns : tie.Need-returns
 returns c = rw (lt-leb 1 (c .before .args .order .0) (omega arith))

@@ -1,7 +1,7 @@
 -- `logs_malformed` makes the definition's two tests.
 use borrow.Author.Tests.{lt-ltb, le-ltb}
-use Rattle.record_write.proofs.logs_malformed.Statement.{statement}
-use Rattle.record_write.proofs.logs_malformed.Tie as tie
+use Rattle.record_fit.proofs.logs_malformed.Statement.{statement}
+use Rattle.record_fit.proofs.logs_malformed.Tie as tie
 
 returns : tie.Need-returns
 returns c = rw (lt-ltb 24 (c .before .args .window-n-log) (c .if1 .taken))

@@ -2,8 +2,8 @@
 use Prim.Native.Nat.{_-_}
 use native.Mathlib.Omega.{arith}
 use borrow.Author.Tests.{eq-eqb, ne-eqb, le-leb, lt-leb}
-use Rattle.record_write.proofs.logs_unfit.Statement.{statement}
-use Rattle.record_write.proofs.logs_unfit.Tie as tie
+use Rattle.record_fit.proofs.logs_unfit.Statement.{statement}
+use Rattle.record_fit.proofs.logs_unfit.Tie as tie
 
 returns : tie.Need-returns
 returns c = rw (eq-eqb (c .before .args .window-n-log) 0 (c .if1 .taken))

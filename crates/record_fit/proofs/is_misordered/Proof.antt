@@ -1,7 +1,7 @@
 -- `is_misordered` tests the order of a Conv1 record alone.
 use borrow.Author.Needs.{needs}
-use Rattle.record_write.proofs.is_misordered.Statement.{statement}
-use Rattle.record_write.proofs.is_misordered.Tie as tie
+use Rattle.record_fit.proofs.is_misordered.Statement.{statement}
+use Rattle.record_fit.proofs.is_misordered.Tie as tie
 
 enum-told : tie.Need-enum-told
 enum-told c = search needs

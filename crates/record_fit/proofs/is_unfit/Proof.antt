@@ -1,7 +1,7 @@
 -- `is_unfit` makes test 10 of the record's own variant.
 use borrow.Author.Needs.{needs}
-use Rattle.record_write.proofs.is_unfit.Statement.{statement}
-use Rattle.record_write.proofs.is_unfit.Tie as tie
+use Rattle.record_fit.proofs.is_unfit.Statement.{statement}
+use Rattle.record_fit.proofs.is_unfit.Tie as tie
 
 enum-told : tie.Need-enum-told
 enum-told c = search needs

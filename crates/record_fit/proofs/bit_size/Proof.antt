@@ -5,8 +5,8 @@ use native.Mathlib.Omega.{arith}
 use borrow.Author.Needs.{needs}
 use Rattle.record.specs.Writing.{misordered}
 use Rattle.record.proofs.Refusals.{order-range}
-use Rattle.record_write.proofs.bit_size.Statement.{statement}
-use Rattle.record_write.proofs.bit_size.Tie as tie
+use Rattle.record_fit.proofs.bit_size.Statement.{statement}
+use Rattle.record_fit.proofs.bit_size.Tie as tie
 
 enum-told : tie.Need-enum-told
 enum-told c = search needs

@@ -7,8 +7,8 @@ use borrow.Author.Tests.{lt-ltb, le-ltb}
 use lib.Dec.{ltb}
 use Rattle.record.specs.Writing.{misordered, malformed, unfit, writingRefusal}
 use Rattle.record.proofs.Refusals.{bits-small}
-use Rattle.record_write.proofs.refusal.Statement.{statement}
-use Rattle.record_write.proofs.refusal.Tie as tie
+use Rattle.record_fit.proofs.refusal.Statement.{statement}
+use Rattle.record_fit.proofs.refusal.Tie as tie
 
 is-misordered-requires : tie.Need-is-misordered-requires
 is-misordered-requires c κs = search needs

@@ -1,7 +1,7 @@
 -- `is_malformed` makes test 9 of the record's own variant.
 use borrow.Author.Needs.{needs}
-use Rattle.record_write.proofs.is_malformed.Statement.{statement}
-use Rattle.record_write.proofs.is_malformed.Tie as tie
+use Rattle.record_fit.proofs.is_malformed.Statement.{statement}
+use Rattle.record_fit.proofs.is_malformed.Tie as tie
 
 enum-told : tie.Need-enum-told
 enum-told c = search needs
