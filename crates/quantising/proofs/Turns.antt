@@ -8,7 +8,8 @@ use lib.IntN.{ℤ}
 use lib.ListN.{length, getD, take, drop, set}
 use lib.Seq.{drop-cons, getD-take, length-take-le, drop-length, take-suc-set}
 use lib.Ieee.{Float, nan}
-use Rattle.floats.specs.Values.{magnitude, holds}
+use Rattle.floats.specs.Values.{magnitude}
+use Rattle.rounding.specs.Wholes.{holds}
 use Rattle.quantising.specs.Steps.{_⊕_, _⊗_, sumFrom, weightOf, weightsHold}
 
 module _ (ws : List Float) (k i : ℕ) (fits : k ≤ length ws) (h : i < k) where

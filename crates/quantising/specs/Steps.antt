@@ -5,7 +5,8 @@ use Prim.Native.Nat.{ℕ, zero, suc, _-_, _^_, min}
 use lib.IntN.{ℤ, pos, negsuc}
 use lib.Ieee.{Float, binary64, add, sub, mul, div, ofInt}
 use lib.Ieee.Scale.{finite}
-use Rattle.floats.specs.Values.{magnitude, exponentOf, roundedOf, cutOf, holds}
+use Rattle.floats.specs.Values.{magnitude, exponentOf}
+use Rattle.rounding.specs.Wholes.{roundedOf, cutOf, holds}
 use Rattle.rule.specs.Numbers.{greatest, accumulator, limit}
 use Rattle.rule.specs.Prediction.{admitted}
 use Rattle.quantising.specs.declared.Scale.{Scale}

@@ -2,12 +2,12 @@
 //
 // Each f64 line is one operation at a time, from the left, since float sums and products depend on their order. The exponent, the
 // rounding and the cut are worked out in whole numbers.
-use floats::Whole;
 use kinds::Answer;
 use kinds::Order;
 use kinds::SampleCount;
 use kinds::Shift;
 use kinds::Width;
+use rounding::Whole;
 ghost use mathlib.Core.Path.{_≡_};
 ghost use mathlib.Core.Bool.{false, cond};
 ghost use Prim.Native.Nat.{_-_, _≤_, min};
@@ -165,7 +165,7 @@ fn round_weights(weights: [f64; 32], order: usize, factor: f64) -> RoundedWeight
     let mut rounded = [0i32; 32];
     let mut i = 0;
     while i < order {
-        let whole = floats::round_away(weights[i] * factor, 32);
+        let whole = rounding::round_away(weights[i] * factor, 32);
         let Whole::At(w) = whole else {
             return RoundedWeights {
                 fit: false,
@@ -212,7 +212,7 @@ fn configure(
     if !rounded.fit {
         return no_configuration();
     }
-    let cut = floats::cut(float_bias * factor, 64);
+    let cut = rounding::cut(float_bias * factor, 64);
     let Whole::At(bias) = cut else {
         return no_configuration();
     };

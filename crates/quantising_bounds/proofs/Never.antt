@@ -15,7 +15,8 @@ use lib.Ieee.Bits.{is-true}
 use lib.Ieee.Fits.{add-fits, and-i}
 use lib.Ieee.Positive.{num, den, den-pos}
 use lib.Ieee.Scale.{finite}
-use Rattle.floats.specs.Values.{halfUp, isNegative, signed, roundedOf, cutOf, inBits, holds}
+use Rattle.floats.specs.Values.{isNegative}
+use Rattle.rounding.specs.Wholes.{halfUp, signed, roundedOf, cutOf, inBits, holds}
 use Rattle.floats.proofs.Unpacking.{packed}
 use Rattle.kinds.specs.declared.Width.{Width}
 use Rattle.kinds.specs.declared.Width.the-variants.{Eight, Sixteen, ThirtyTwo}

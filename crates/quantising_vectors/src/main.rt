@@ -1,10 +1,10 @@
 // Document 01's worked examples of quantising, and the edges of its steps. A line is: the answer's number, the shift, the bias, and the
 // lent slice after the call, which held 77 at each place before it.
-use floats::Whole;
 use kinds::Order;
 use libc::STDOUT_FILENO;
 use quantising::Fitted;
 use quantising::Quantised;
+use rounding::Whole;
 
 fn print(text: &[u8]) {
     io::write_all(STDOUT_FILENO, text);
@@ -161,26 +161,26 @@ fn shifts() {
 
 fn integers() {
     print(b"to 32 bits, to the nearest\n");
-    print_whole(floats::round_away(2147483647.0, 32));
-    print_whole(floats::round_away(2147483647.4999995, 32));
-    print_whole(floats::round_away(2147483647.5, 32));
-    print_whole(floats::round_away(2147483648.0, 32));
-    print_whole(floats::round_away(-2147483648.0, 32));
-    print_whole(floats::round_away(-2147483648.4999995, 32));
-    print_whole(floats::round_away(-2147483648.5, 32));
-    print_whole(floats::round_away(4503599627370495.5, 32));
-    print_whole(floats::round_away(1.0 / 0.0, 32));
-    print_whole(floats::round_away(0.0 / 0.0, 32));
-    print_whole(floats::round_away(5e-324, 32));
+    print_whole(rounding::round_away(2147483647.0, 32));
+    print_whole(rounding::round_away(2147483647.4999995, 32));
+    print_whole(rounding::round_away(2147483647.5, 32));
+    print_whole(rounding::round_away(2147483648.0, 32));
+    print_whole(rounding::round_away(-2147483648.0, 32));
+    print_whole(rounding::round_away(-2147483648.4999995, 32));
+    print_whole(rounding::round_away(-2147483648.5, 32));
+    print_whole(rounding::round_away(4503599627370495.5, 32));
+    print_whole(rounding::round_away(1.0 / 0.0, 32));
+    print_whole(rounding::round_away(0.0 / 0.0, 32));
+    print_whole(rounding::round_away(5e-324, 32));
     print(b"to 64 bits, cut\n");
-    print_whole(floats::cut(9223372036854774784.0, 64));
-    print_whole(floats::cut(9223372036854775808.0, 64));
-    print_whole(floats::cut(-9223372036854775808.0, 64));
-    print_whole(floats::cut(-9223372036854777856.0, 64));
-    print_whole(floats::cut(-0.9999999999999999, 64));
-    print_whole(floats::cut(4503599627370495.5, 64));
-    print_whole(floats::cut(-1.0 / 0.0, 64));
-    print_whole(floats::cut(0.0 / 0.0, 64));
+    print_whole(rounding::cut(9223372036854774784.0, 64));
+    print_whole(rounding::cut(9223372036854775808.0, 64));
+    print_whole(rounding::cut(-9223372036854775808.0, 64));
+    print_whole(rounding::cut(-9223372036854777856.0, 64));
+    print_whole(rounding::cut(-0.9999999999999999, 64));
+    print_whole(rounding::cut(4503599627370495.5, 64));
+    print_whole(rounding::cut(-1.0 / 0.0, 64));
+    print_whole(rounding::cut(0.0 / 0.0, 64));
 }
 
 fn not_finite() {

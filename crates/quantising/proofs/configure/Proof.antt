@@ -13,9 +13,9 @@ use lib.Ieee.{Float, binary64, ofInt}
 use mir.Facts.{toZ-ofZ}
 use mir.Syntax.{w64}
 use mir.Val.{toZ, ofZ}
-use Rattle.floats.specs.Values.{cutOf}
+use Rattle.rounding.specs.Wholes.{cutOf}
 use Rattle.floats.proofs.Compared.{not-was-true, not-was-false}
-use Rattle.floats.proofs.Holding.{Handed, handed, outside}
+use Rattle.rounding.proofs.Holding.{Handed, handed, outside}
 use Rattle.kinds.specs.Widths.{bitsOf}
 use Rattle.rule.specs.Prediction.{admitted}
 use Rattle.quantising.specs.Steps.{_⊗_, float, scaleOf, weightOf, weightsHold, biasOf, biasHolds, Outcome, found, settled, outcome}

@@ -12,8 +12,8 @@ use lib.Ieee.{Float, nan}
 use mir.Facts.{toZ-ofZ}
 use mir.Syntax.{w32, w64}
 use mir.Val.{toZ, ofZ, SFits}
-use Rattle.floats.specs.Values.{roundedOf, holds}
-use Rattle.floats.proofs.Holding.{Handed, handed, outside, holds-mag}
+use Rattle.rounding.specs.Wholes.{roundedOf, holds}
+use Rattle.rounding.proofs.Holding.{Handed, handed, outside, holds-mag}
 use Rattle.quantising.specs.Steps.{_⊗_, weightOf, weightsHold}
 use Rattle.quantising.proofs.Turns.{hold-turn, round-turn, at-end}
 use Rattle.quantising.proofs.round_weights.Statement.{statement}

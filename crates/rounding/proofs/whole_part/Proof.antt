@@ -1,8 +1,8 @@
 -- `floats::whole_part` meets its contract: each arm is one law of shifts.
 use borrow.Author.Needs.{needs}
-use Rattle.floats.proofs.WholeParts.{whole-above, whole-left, whole-below, whole-right}
-use Rattle.floats.proofs.whole_part.Statement.{statement}
-use Rattle.floats.proofs.whole_part.Tie as tie
+use Rattle.rounding.proofs.WholeParts.{whole-above, whole-left, whole-below, whole-right}
+use Rattle.rounding.proofs.whole_part.Statement.{statement}
+use Rattle.rounding.proofs.whole_part.Tie as tie
 
 returns : tie.Need-returns
 returns c =

@@ -17,10 +17,11 @@ use lib.Ieee.Scale.{finite}
 use mir.Syntax.{w64}
 use mir.Val.{toZ}
 use mir.Facts.{toZ-pos, toZ-neg}
-use Rattle.floats.specs.Values.{Unpacked, halfUp, isNegative, signed, inBits, roundedOf, cutOf, held}
-use Rattle.floats.specs.declared.Whole.{Whole}
-use Rattle.floats.specs.declared.Whole.the-variants.{At, Outside}
-use Rattle.floats.proofs.WholeParts.{halfUp-same}
+use Rattle.floats.specs.Values.{Unpacked, isNegative}
+use Rattle.rounding.specs.Wholes.{halfUp, signed, inBits, roundedOf, cutOf, held}
+use Rattle.rounding.specs.declared.Whole.{Whole}
+use Rattle.rounding.specs.declared.Whole.the-variants.{At, Outside}
+use Rattle.rounding.proofs.WholeParts.{halfUp-same}
 
 -- n with that sign where it fits
 abbrev pub fitted : ℕ → Bool → ℕ → Whole

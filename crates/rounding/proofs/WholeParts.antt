@@ -7,7 +7,8 @@ use lib.Arith.{digits-div}
 use lib.Dec.{lit≤, lit<}
 use lib.Pow.{pow-pos, pow-lt, pow-add, pow-mono, shl-lt, shl-exact, shl-shr, shr-le}
 use lib.Ieee.Nearest.{div-same}
-use Rattle.floats.specs.Values.{Digits, halfUp}
+use Rattle.floats.specs.Values.{Digits}
+use Rattle.rounding.specs.Wholes.{halfUp}
 
 -- ---- the cap
 at-cap : (v c : ℕ) → c ≤ v → c ≡ min v c

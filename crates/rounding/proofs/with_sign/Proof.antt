@@ -2,10 +2,10 @@
 use mathlib.Core.Path.{_≡_, sym, ap, _∙_}
 use mathlib.Core.Bool.{Bool, true, false}
 use borrow.Author.Needs.{needs}
-use Rattle.floats.specs.declared.Whole.{Whole}
-use Rattle.floats.proofs.Signs.{fitted, below-zero, neg-cast, neg-at, neg-no, pos-cast, pos-at, pos-no}
-use Rattle.floats.proofs.with_sign.Statement.{statement}
-use Rattle.floats.proofs.with_sign.Tie as tie
+use Rattle.rounding.specs.declared.Whole.{Whole}
+use Rattle.rounding.proofs.Signs.{fitted, below-zero, neg-cast, neg-at, neg-no, pos-cast, pos-at, pos-no}
+use Rattle.rounding.proofs.with_sign.Statement.{statement}
+use Rattle.rounding.proofs.with_sign.Tie as tie
 
 -- the sign that was tested, for the sign that was given
 below : (c : tie.Then1) (r : Whole) → (let a = c .before .args in r ≡ fitted (a .bits) true (a .size) → r ≡ fitted (a .bits) (a .negative) (a .size))

@@ -2,9 +2,9 @@
 use mathlib.Core.Path.{ap, _∙_}
 use Prim.Native.Nat.{ℕ, _-_, _^_, min}
 use borrow.Author.Needs.{needs}
-use Rattle.floats.proofs.WholeParts.{nearest-whole, nearest-below, half-fits, nearest-right}
-use Rattle.floats.proofs.nearest_part.Statement.{statement}
-use Rattle.floats.proofs.nearest_part.Tie as tie
+use Rattle.rounding.proofs.WholeParts.{nearest-whole, nearest-below, half-fits, nearest-right}
+use Rattle.rounding.proofs.nearest_part.Statement.{statement}
+use Rattle.rounding.proofs.nearest_part.Tie as tie
 
 whole-part-requires : tie.Need-whole-part-requires
 whole-part-requires c κs = search needs

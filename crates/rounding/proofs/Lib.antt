@@ -1,0 +1,3 @@
+pub mod WholeParts
+pub mod Signs
+pub mod Holding
