@@ -114,7 +114,7 @@ fn section(words: &[u8], from: Cursor, kind: u64) -> Cursor {
         first: 0,
     };
     while at < words.len() {
-        let end = at + text::line_length(&words[at..]);
+        let end = at + places::line_length(&words[at..]);
         let Step::Case(same) = run_line(&words[at..end], kind) else {
             break;
         };

@@ -1,4 +1,4 @@
--- One step of each scan over a text: what a definition says at a place that holds a byte, and what it says at the end. Assumes nothing.
+-- One step of each scan for words and digits: what a definition says at a place that holds a byte, and what it says at the end. Assumes nothing.
 use mathlib.Core.Bool.{Bool, true, false, Bool·beq, cond, false≢true, and-eq-true-iff}
 use mathlib.Core.List.{List, [], _∷_}
 use mathlib.Core.Path.{_≡_, refl, ap, _∙_}
@@ -6,30 +6,13 @@ use Prim.Native.Nat.{ℕ, _+_, _-_, _^_, _≤_, _<_}
 use native.Mathlib.Numerals.{add-one}
 use native.Mathlib.Omega.{arith}
 use borrow.Author.Tests.{lt-ltb, le-ltb, leb-true}
-use lib.Dec.{eqb, leb}
+use lib.Dec.{leb}
 use lib.ListN.{length, getD, drop, drop-of-length-le}
 use lib.Seq.{drop-cons, take-nil}
 use Rattle.text.specs.declared.Found.{Found}
 use Rattle.text.specs.declared.Found.the-variants.{Nothing, Number}
-use Rattle.text.specs.declared.Place.{Place}
 use Rattle.text.specs.declared.Word.{Word}
 use Rattle.text.specs.Words.{isBlank, isDigit, front, grown, numberAfter, number, isNegative, meaning, between, startFrom, wordFrom}
-use Rattle.text.specs.Places.{lineLength, stepped, placeAfter}
-
--- neither number of a place grows by more than one at a step
-pub stepped-line : (place : Place) (b : ℕ) → stepped place b .line ≤ place .line + 1
-stepped-line place b = at (eqb b 10)
-  where
-    at : (t : Bool) → cond {A = Place} t (record { line = place .line + 1; column = 1 }) (record { line = place .line; column = place .column + 1 }) .line ≤ place .line + 1
-    at true = omega arith
-    at false = omega arith
-
-pub stepped-column : (place : Place) (b : ℕ) → stepped place b .column ≤ place .column + 1
-stepped-column place b = at (eqb b 10)
-  where
-    at : (t : Bool) → cond {A = Place} t (record { line = place .line + 1; column = 1 }) (record { line = place .line; column = place .column + 1 }) .column ≤ place .column + 1
-    at true = omega arith
-    at false = omega arith
 
 -- a place that holds a byte, and the places after it
 module _ (text : List ℕ) (i : ℕ) (h : i < length text) where
@@ -55,18 +38,6 @@ module _ (text : List ℕ) (i : ℕ) (h : i < length text) where
   pub number-too-large : (v : ℕ) → isDigit (getD text i 0) ≡ true → 2 ^ 64 ≤ grown v (getD text i 0) → numberAfter v (drop i text) ≡ Nothing
   unfolding numberAfter
   number-too-large v d f = ap (numberAfter v) rest ∙ rw (d, le-ltb _ _ f)
-
-  pub line-more : eqb (getD text i 0) 10 ≡ false → lineLength (drop i text) ≡ lineLength (drop (i + 1) text) + 1
-  unfolding lineLength
-  line-more e = ap lineLength rest ∙ rw e
-
-  pub line-none : eqb (getD text i 0) 10 ≡ true → lineLength (drop i text) ≡ 0
-  unfolding lineLength
-  line-none e = ap lineLength rest ∙ rw e
-
-  pub place-more : (place : Place) → placeAfter place (drop i text) ≡ placeAfter (stepped place (getD text i 0)) (drop (i + 1) text)
-  unfolding placeAfter
-  place-more place = ap (placeAfter place) rest
 
 pub digit-bounds : (b : ℕ) → isDigit b ≡ true → (48 ≤ b) × (b ≤ 57)
 digit-bounds b e =
@@ -100,14 +71,6 @@ module _ (text : List ℕ) (i : ℕ) (h : length text ≤ i) where
   pub number-over : (v : ℕ) → numberAfter v (drop i text) ≡ Number v
   unfolding numberAfter
   number-over v = ap (numberAfter v) over
-
-  pub line-over : lineLength (drop i text) ≡ 0
-  unfolding lineLength
-  line-over = ap lineLength over
-
-  pub place-over : (place : Place) → placeAfter place (drop i text) ≡ place
-  unfolding placeAfter
-  place-over place = ap (placeAfter place) over
 
 -- a word from its two ends and what its bytes say
 pub word-from : (text : List ℕ) (from start end : ℕ) (n : Bool) (f : Found) → start ≡ startFrom text from → end ≡ start + front false (drop start text) →

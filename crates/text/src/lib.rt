@@ -1,13 +1,9 @@
-// Decimal numbers in text: the words between blanks, the number that a word stands for, and the line and column of a place.
+// Decimal numbers in text: the words between blanks, and the number that a word stands for.
 ghost use mathlib.Core.Path.{_≡_};
-ghost use mathlib.Core.Bool.{true};
-ghost use Prim.Native.Nat.{_+_, _-_, _≤_, _<_, _^_};
+ghost use Prim.Native.Nat.{_+_, _≤_};
 ghost use lib.ListN.{length, drop};
 ghost use Rattle.text.specs.Words.{isBlank, isDigit, front, isNegative, wordFrom};
 ghost use Rattle.text.specs.Words.{number as Words·number, meaning as Words·meaning};
-ghost use Rattle.text.specs.Signed.{signed32, signed64};
-ghost use Rattle.text.specs.declared.Found.the-variants.{Number};
-ghost use Rattle.text.specs.Places.{lineLength, stepped, placeAfter};
 
 const TAB: u8 = 9;
 
@@ -32,23 +28,6 @@ pub struct Word {
     pub end: usize,
     pub negative: bool,
     pub found: Found,
-}
-
-// A word as a signed number of 32 bits, and of 64.
-pub enum Signed32 {
-    Number(i32),
-    Unfit,
-}
-
-pub enum Signed64 {
-    Number(i64),
-    Unfit,
-}
-
-// A place of a text, as people count it: both from 1, a column to a byte.
-pub struct Place {
-    pub line: usize,
-    pub column: usize,
 }
 
 fn is_blank(byte: u8) -> bool
@@ -151,105 +130,4 @@ pub fn next_word(text: &[u8], from: usize) -> Word
         negative,
         found,
     }
-}
-
-// -n, worked out so that the least number is never negated.
-fn minus_32(n: u64) -> Signed32
-    ensures { λ r. ⌜ r ≡ signed32 true (Number n) ⌝ }
-{
-    if n == 0 {
-        return Signed32::Number(0);
-    }
-    if n <= 2147483648 {
-        return Signed32::Number(-1 - ((n - 1) as i32));
-    }
-    Signed32::Unfit
-}
-
-fn minus_64(n: u64) -> Signed64
-    ensures { λ r. ⌜ r ≡ signed64 true (Number n) ⌝ }
-{
-    if n == 0 {
-        return Signed64::Number(0);
-    }
-    if n <= 9223372036854775808 {
-        return Signed64::Number(-1 - ((n - 1) as i64));
-    }
-    Signed64::Unfit
-}
-
-pub fn to_signed_32(word: Word) -> Signed32
-    ensures { λ r. ⌜ r ≡ signed32 (word .negative) (word .found) ⌝ }
-{
-    let found = word.found;
-    let Found::Number(n) = found else {
-        return Signed32::Unfit;
-    };
-    if word.negative {
-        return minus_32(n);
-    }
-    if n < 2147483648 {
-        return Signed32::Number(n as i32);
-    }
-    Signed32::Unfit
-}
-
-pub fn to_signed_64(word: Word) -> Signed64
-    ensures { λ r. ⌜ r ≡ signed64 (word .negative) (word .found) ⌝ }
-{
-    let found = word.found;
-    let Found::Number(n) = found else {
-        return Signed64::Unfit;
-    };
-    if word.negative {
-        return minus_64(n);
-    }
-    if n < 9223372036854775808 {
-        return Signed64::Number(n as i64);
-    }
-    Signed64::Unfit
-}
-
-// How long the first line is, without its line end.
-pub fn line_length(text: &[u8]) -> usize
-    ensures { λ r. ⌜ (r ≡ lineLength (now (text .entry))) × (r ≤ length (now (text .entry))) ⌝ }
-{
-    let mut i = 0;
-    while i < text.len() {
-        if text[i] == LINE_END {
-            return i;
-        }
-        i += 1;
-    }
-    i
-}
-
-// The place after one more byte.
-fn step(place: Place, byte: u8) -> Place
-    requires { ⌜ (place .line < 2 ^ 64 - 1) × (place .column < 2 ^ 64 - 1) ⌝ }
-    ensures { λ r. ⌜ r ≡ stepped place byte ⌝ }
-{
-    if byte == LINE_END {
-        return Place {
-            line: place.line + 1,
-            column: 1,
-        };
-    }
-    Place {
-        line: place.line,
-        column: place.column + 1,
-    }
-}
-
-// The place that follows a text, which starts at line 1, column 1.
-pub fn place_after(text: &[u8]) -> Place
-    ensures { λ r. ⌜ r ≡ placeAfter (record { line = 1; column = 1 }) (now (text .entry)) ⌝ }
-{
-    let mut place = Place { line: 1, column: 1 };
-    let mut i = 0;
-    while i < text.len() {
-        place = step(place, text[i]);
-        i += 1;
-    }
-    place
 }

@@ -71,7 +71,7 @@ fn with_head(text: &[u8], line: &[u8], configuration: Configuration) {
 }
 
 fn answer(text: &[u8]) {
-    let end = text::line_length(text);
+    let end = places::line_length(text);
     let line = &text[..end];
     let head = reading::read_head(line);
     match head {

@@ -1,9 +1,9 @@
 // The configuration and the trace, read from the text.
 use kinds::Order;
 use kinds::Shift;
+use signed_numbers::Signed32;
+use signed_numbers::Signed64;
 use text::Found;
-use text::Signed32;
-use text::Signed64;
 use text::Word;
 ghost use lib.ListN.{length};
 ghost use Rattle.wall.specs.Bounds.{Within, Counts};
@@ -104,7 +104,7 @@ pub(crate) fn read_head(line: &[u8]) -> Head {
         return unread(Wanted::Shift, third);
     };
     let fourth = text::next_word(line, third.end);
-    let Signed64::Number(bias) = text::to_signed_64(fourth) else {
+    let Signed64::Number(bias) = signed_numbers::to_signed_64(fourth) else {
         return unread(Wanted::Bias, fourth);
     };
     Head::Read(Configuration {
@@ -128,7 +128,7 @@ pub(crate) fn read_weights(line: &[u8], from: usize, weights: &mut [i32]) -> Cou
         if word.start == word.end {
             return Counted::Count(i);
         }
-        let Signed32::Number(weight) = text::to_signed_32(word) else {
+        let Signed32::Number(weight) = signed_numbers::to_signed_32(word) else {
             return Counted::Unread(Fault {
                 wanted: Wanted::Weight,
                 at: word.start,

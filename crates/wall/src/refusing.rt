@@ -8,7 +8,7 @@ use kinds::Answer;
 
 fn say_place(text: &[u8], at: usize) {
     let end = slices::least(at, text.len());
-    let place = text::place_after(&text[..end]);
+    let place = places::place_after(&text[..end]);
     say(b"line ");
     say_number(place.line as u64);
     say(b", column ");
@@ -66,7 +66,7 @@ fn place_of(text: &[u8], number: usize) -> usize {
     if number == 5 {
         return text.len();
     }
-    let end = text::line_length(text);
+    let end = places::line_length(text);
     nth_start(&text[..end], number)
 }
 

@@ -1,9 +1,9 @@
 -- The tests are the definition's. Assumes nothing.
 use borrow.Author.Needs.{needs}
 use borrow.Author.Tests.{lt-ltb, le-ltb}
-use Rattle.text.specs.Signed.{signed32}
-use Rattle.text.proofs.to_signed_32.Statement.{statement}
-use Rattle.text.proofs.to_signed_32.Tie as tie
+use Rattle.signed_numbers.specs.Signed.{signed32}
+use Rattle.signed_numbers.proofs.to_signed_32.Statement.{statement}
+use Rattle.signed_numbers.proofs.to_signed_32.Tie as tie
 
 enum-known-found : tie.Need-enum-known-found
 enum-known-found c = search needs

@@ -4,11 +4,11 @@ use borrow.Author.Needs.{needs}
 use borrow.Author.Tests.{le-leb, lt-leb}
 use mir.Facts.{toZ-ofZ}
 use mir.Syntax.{w64}
-use Rattle.text.specs.declared.Signed64.the-variants.{Number}
-use Rattle.text.specs.Signed.{signed64}
-use Rattle.text.proofs.Signing.{minus-worked, minus-fits}
-use Rattle.text.proofs.minus_64.Statement.{statement}
-use Rattle.text.proofs.minus_64.Tie as tie
+use Rattle.signed_numbers.specs.declared.Signed64.the-variants.{Number}
+use Rattle.signed_numbers.specs.Signed.{signed64}
+use Rattle.signed_numbers.proofs.Signing.{minus-worked, minus-fits}
+use Rattle.signed_numbers.proofs.minus_64.Statement.{statement}
+use Rattle.signed_numbers.proofs.minus_64.Tie as tie
 
 returns : tie.Need-returns
 unfolding signed64

@@ -1,8 +1,8 @@
 -- The branch is the definition's. Assumes nothing.
 use borrow.Author.Needs.{needs}
 use borrow.Author.Tests.{eq-eqb, ne-eqb}
-use Rattle.text.proofs.step.Statement.{statement}
-use Rattle.text.proofs.step.Tie as tie
+use Rattle.places.proofs.step.Statement.{statement}
+use Rattle.places.proofs.step.Tie as tie
 
 add-t4 : tie.Need-add-t4
 add-t4 c = search needs

@@ -5,10 +5,10 @@ use native.Mathlib.Omega.{arith}
 use borrow.Author.Needs.{needs}
 use borrow.Author.Tests.{eq-eqb, ne-eqb}
 use lib.ListN.{length, drop}
-use Rattle.text.specs.Places.{lineLength}
-use Rattle.text.proofs.Scans.{line-more, line-none, line-over}
-use Rattle.text.proofs.line_length.Statement.{statement}
-use Rattle.text.proofs.line_length.Tie as tie
+use Rattle.places.specs.Places.{lineLength}
+use Rattle.places.proofs.Lines.{line-more, line-none, line-over}
+use Rattle.places.proofs.line_length.Statement.{statement}
+use Rattle.places.proofs.line_length.Tie as tie
 
 abbrev Inv-loop : tie.InvT-loop
 Inv-loop text i₀ i = (i ≤ length text) × (i + lineLength (drop i text) ≡ lineLength text)

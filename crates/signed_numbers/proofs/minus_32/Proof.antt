@@ -4,11 +4,11 @@ use borrow.Author.Needs.{needs}
 use borrow.Author.Tests.{le-leb, lt-leb}
 use mir.Facts.{toZ-ofZ}
 use mir.Syntax.{w32}
-use Rattle.text.specs.declared.Signed32.the-variants.{Number}
-use Rattle.text.specs.Signed.{signed32}
-use Rattle.text.proofs.Signing.{minus-worked, minus-fits}
-use Rattle.text.proofs.minus_32.Statement.{statement}
-use Rattle.text.proofs.minus_32.Tie as tie
+use Rattle.signed_numbers.specs.declared.Signed32.the-variants.{Number}
+use Rattle.signed_numbers.specs.Signed.{signed32}
+use Rattle.signed_numbers.proofs.Signing.{minus-worked, minus-fits}
+use Rattle.signed_numbers.proofs.minus_32.Statement.{statement}
+use Rattle.signed_numbers.proofs.minus_32.Tie as tie
 
 returns : tie.Need-returns
 unfolding signed32

@@ -3,12 +3,12 @@ use mathlib.Core.Bool.{Bool, cond}
 use Prim.Native.Nat.{ℕ, zero, suc, _^_}
 use lib.Dec.{leb, ltb}
 use lib.IntN.{ℤ, pos, negsuc}
 use Rattle.text.specs.declared.Found.{Found}
 use Rattle.text.specs.declared.Found.the-variants.{Nothing, Number}
-use Rattle.text.specs.declared.Signed32.{Signed32}
-use Rattle.text.specs.declared.Signed32.the-variants as S32
-use Rattle.text.specs.declared.Signed64.{Signed64}
-use Rattle.text.specs.declared.Signed64.the-variants as S64
+use Rattle.signed_numbers.specs.declared.Signed32.{Signed32}
+use Rattle.signed_numbers.specs.declared.Signed32.the-variants as S32
+use Rattle.signed_numbers.specs.declared.Signed64.{Signed64}
+use Rattle.signed_numbers.specs.declared.Signed64.the-variants as S64
 
 -- from -2^h to 2^h - 1
 abbrev pub fits : ℕ → Bool → ℕ → Bool

@@ -3,7 +3,7 @@ use mathlib.Core.Bool.{cond}
 use mathlib.Core.List.{List, [], _∷_}
 use Prim.Native.Nat.{ℕ, _+_}
 use lib.Dec.{eqb}
-use Rattle.text.specs.declared.Place.{Place}
+use Rattle.places.specs.declared.Place.{Place}
 
 -- how many bytes stand before the first line end
 unfoldable pub lineLength : List ℕ → ℕ

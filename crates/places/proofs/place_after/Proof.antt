@@ -4,11 +4,11 @@ use Prim.Native.Nat.{_+_, _-_, _≤_}
 use native.Mathlib.Omega.{arith}
 use borrow.Author.Needs.{needs}
 use lib.ListN.{length, getD, drop}
-use Rattle.text.specs.declared.Place.{Place}
-use Rattle.text.specs.Places.{placeAfter}
-use Rattle.text.proofs.Scans.{stepped-line, stepped-column, place-more, place-over}
-use Rattle.text.proofs.place_after.Statement.{statement}
-use Rattle.text.proofs.place_after.Tie as tie
+use Rattle.places.specs.declared.Place.{Place}
+use Rattle.places.specs.Places.{placeAfter}
+use Rattle.places.proofs.Lines.{stepped-line, stepped-column, place-more, place-over}
+use Rattle.places.proofs.place_after.Statement.{statement}
+use Rattle.places.proofs.place_after.Tie as tie
 
 abbrev Inv-loop : tie.InvT-loop
 Inv-loop text place₀ i₀ place i = (i ≤ length text) × (place .line ≤ i + 1) × (place .column ≤ i + 1) × (placeAfter place (drop i text) ≡ placeAfter place₀ text)

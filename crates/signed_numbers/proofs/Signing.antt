@@ -8,7 +8,7 @@ use lib.Pow.{pow-pos}
 use mir.Facts.{toZ-pos}
 use mir.Syntax.{Width}
 use mir.Val.{SFits, hbits, toZ}
-use Rattle.text.specs.Signed.{minus}
+use Rattle.signed_numbers.specs.Signed.{minus}
 
 below-minus-one : (n : ℕ) → negsuc 0 -ℤ pos n ≡ negsuc n
 below-minus-one zero = refl
