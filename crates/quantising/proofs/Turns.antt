@@ -1,43 +1,27 @@
--- One turn of a loop over the first k fitted weights, for what is left of a list: the two sums, and the rounded weights.
+-- One turn of the loop that rounds the first k fitted weights.
 use mathlib.Core.Path.{_≡_, sym, ap, _∙_}
 use mathlib.Core.Bool.{_&&_}
 use mathlib.Core.List.{List, [], _∷_, _++_, map, append-assoc}
-use Prim.Native.Nat.{ℕ, suc, _+_, _≤_, _<_}
+use Prim.Native.Nat.{ℕ, _+_, _≤_, _<_}
 use native.Mathlib.Numerals.{add-one}
 use lib.IntN.{ℤ}
 use lib.ListN.{length, getD, take, drop, set}
-use lib.Seq.{drop-cons, getD-take, length-take-le, drop-length, take-suc-set}
+use lib.Seq.{take-suc-set}
 use lib.Ieee.{Float, nan}
-use Rattle.floats.specs.Values.{magnitude}
 use Rattle.rounding.specs.Wholes.{holds}
-use Rattle.quantising.specs.Steps.{_⊕_, _⊗_, sumFrom, weightOf, weightsHold}
+use Rattle.scaling.specs.Steps.{_⊗_}
+use Rattle.scaling.proofs.Turns.{next-weight}
+use Rattle.quantising.specs.Steps.{weightOf, weightsHold}
 
-module _ (ws : List Float) (k i : ℕ) (fits : k ≤ length ws) (h : i < k) where
-  next : drop i (take k ws) ≡ getD ws i nan ∷ drop (i + 1) (take k ws)
-  next =
-      drop-cons (take k ws) i nan (rw (length-take-le k ws fits) h)
-      ∙ ap (λ (x : Float). x ∷ drop (suc i) (take k ws)) (getD-take k ws i nan h)
-      ∙ ap (λ (j : ℕ). getD ws i nan ∷ drop j (take k ws)) (sym (add-one i))
+module _ (ws : List Float) (k i : ℕ) (fits : k ≤ length ws) (h : i < k) (p : Float) where
+  pub hold-turn : weightsHold p (drop i (take k ws)) ≡ (holds 32 (getD ws i nan ⊗ p) (weightOf p (getD ws i nan)) && weightsHold p (drop (i + 1) (take k ws)))
+  hold-turn = ap (weightsHold p) (next-weight ws k i fits h)
 
-  pub sum-turn : (t : Float) → sumFrom t (drop i (take k ws)) ≡ sumFrom (t ⊕ getD ws i nan) (drop (i + 1) (take k ws))
-  sum-turn t = ap (sumFrom t) next
-
-  pub abs-turn : (t : Float) → sumFrom t (map magnitude (drop i (take k ws))) ≡ sumFrom (t ⊕ magnitude (getD ws i nan)) (map magnitude (drop (i + 1) (take k ws)))
-  abs-turn t = ap (λ (l : List Float). sumFrom t (map magnitude l)) next
-
-  module _ (p : Float) where
-    pub hold-turn : weightsHold p (drop i (take k ws)) ≡ (holds 32 (getD ws i nan ⊗ p) (weightOf p (getD ws i nan)) && weightsHold p (drop (i + 1) (take k ws)))
-    hold-turn = ap (weightsHold p) next
-
-    pub round-turn : (made : List ℤ) (v : ℤ) → i < length made → v ≡ weightOf p (getD ws i nan)
-        → take (i + 1) (set made i v) ++ map (weightOf p) (drop (i + 1) (take k ws)) ≡ take i made ++ map (weightOf p) (drop i (take k ws))
-    round-turn made v g e =
-        ap (λ (j : ℕ). take j (set made i v) ++ map (weightOf p) (drop (i + 1) (take k ws))) (add-one i)
-        ∙ ap (λ (l : List ℤ). l ++ map (weightOf p) (drop (i + 1) (take k ws))) (take-suc-set made i v g)
-        ∙ append-assoc (take i made) (v ∷ []) (map (weightOf p) (drop (i + 1) (take k ws)))
-        ∙ ap (λ (z : ℤ). take i made ++ z ∷ map (weightOf p) (drop (i + 1) (take k ws))) e
-        ∙ ap (λ (l : List Float). take i made ++ map (weightOf p) l) (sym next)
-
--- nothing is left
-pub at-end : (ws : List Float) (k i : ℕ) → k ≤ length ws → i ≡ k → drop i (take k ws) ≡ []
-at-end ws k i fits e = ap (λ (j : ℕ). drop j (take k ws)) (e ∙ sym (length-take-le k ws fits)) ∙ drop-length (take k ws)
+  pub round-turn : (made : List ℤ) (v : ℤ) → i < length made → v ≡ weightOf p (getD ws i nan)
+      → take (i + 1) (set made i v) ++ map (weightOf p) (drop (i + 1) (take k ws)) ≡ take i made ++ map (weightOf p) (drop i (take k ws))
+  round-turn made v g e =
+      ap (λ (j : ℕ). take j (set made i v) ++ map (weightOf p) (drop (i + 1) (take k ws))) (add-one i)
+      ∙ ap (λ (l : List ℤ). l ++ map (weightOf p) (drop (i + 1) (take k ws))) (take-suc-set made i v g)
+      ∙ append-assoc (take i made) (v ∷ []) (map (weightOf p) (drop (i + 1) (take k ws)))
+      ∙ ap (λ (z : ℤ). take i made ++ z ∷ map (weightOf p) (drop (i + 1) (take k ws))) e
+      ∙ ap (λ (l : List Float). take i made ++ map (weightOf p) l) (sym (next-weight ws k i fits h))

@@ -23,15 +23,16 @@ use Rattle.kinds.specs.declared.Width.the-variants.{Eight, Sixteen, ThirtyTwo}
 use Rattle.kinds.specs.Widths.{bitsOf}
 use Rattle.rule.specs.Numbers.{greatest, limit}
 use Rattle.rule.specs.Prediction.{sumAbs, admitted}
-use Rattle.quantising.specs.Steps.{_⊗_, float, total, absTotal, floatBias, divisor, quotient, scaleOf, weightOf, weightsHold, biasOf, biasHolds, found, settled, outcome}
-use Rattle.quantising.specs.declared.Scale.the-variants.{By}
-use Rattle.quantising.proofs.Unsigned.{absTotal-unsigned}
-use Rattle.quantising.proofs.Divisors.{limit-float, divisor-positive, divisor-size, quotient-positive}
+use Rattle.scaling.specs.Steps.{_⊗_, float, total, absTotal, floatBias, divisor, quotient, scaleOf}
+use Rattle.quantising.specs.Steps.{weightOf, weightsHold, biasOf, biasHolds, found, settled, outcome}
+use Rattle.scaling.specs.declared.Scale.the-variants.{By}
+use Rattle.scaling.proofs.Unsigned.{absTotal-unsigned}
+use Rattle.scaling.proofs.Divisors.{limit-float, divisor-positive, divisor-size, quotient-positive}
 use Rattle.quantising_bounds.proofs.Units.{Counts, whole-float, scale-exact}
 use Rattle.quantising_bounds.proofs.Sums.{unitsOf, units-packed, totalUnits, Held, Finite, terms-finite, divisor-bounded, bias-finite}
 use Rattle.quantising_bounds.proofs.Quotients.{power-not-above, shift-bound}
 use Rattle.quantising.proofs.Settling.{is-admitted, past-scale}
-use Rattle.quantising.proofs.Scaling.{reached, shift-fits}
+use Rattle.scaling.proofs.Scaling.{reached, shift-fits}
 
 -- ---- a size with its sign
 natAbs-signed : (s : Bool) (n : ℕ) → natAbs (signed s n) ≡ n

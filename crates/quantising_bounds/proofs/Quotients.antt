@@ -14,10 +14,10 @@ use lib.Ieee.Order.{round-mono}
 use lib.Ieee.Positive.{num, den, positive, den-pos, own-value, positive-of-value, values-of-le}
 use Rattle.floats.specs.Values.{exponentOf}
 use Rattle.rule.specs.Numbers.{accumulator}
-use Rattle.quantising.specs.Steps.{_⊘_, greatestShift, scaleAt}
-use Rattle.quantising.specs.declared.Scale.the-variants.{By}
-use Rattle.quantising.proofs.Divisors.{quotient-of}
-use Rattle.quantising.proofs.Scaling.{same-shift, not-by}
+use Rattle.scaling.specs.Steps.{_⊘_, greatestShift, scaleAt}
+use Rattle.scaling.specs.declared.Scale.the-variants.{By}
+use Rattle.scaling.proofs.Divisors.{quotient-of}
+use Rattle.scaling.proofs.Scaling.{same-shift, not-by}
 use Rattle.quantising_bounds.proofs.Units.{Counts}
 
 -- ---- 2 ^ (q + 1) is not above x

@@ -14,8 +14,8 @@ use lib.Ieee.Scale.{finite}
 use Rattle.floats.specs.Values.{magnitude}
 use Rattle.floats.proofs.Unpacking.{Packed, packed}
 use Rattle.rule.specs.Numbers.{greatest}
-use Rattle.quantising.specs.Steps.{_⊕_, _⊗_, float, sumFrom, absTotal, divisor}
-use Rattle.quantising.proofs.Unsigned.{Unsigned, float-unsigned, magnitude-unsigned, add-unsigned, mul-unsigned, absTotal-unsigned}
+use Rattle.scaling.specs.Steps.{_⊕_, _⊗_, float, sumFrom, absTotal, divisor}
+use Rattle.scaling.proofs.Unsigned.{Unsigned, float-unsigned, magnitude-unsigned, add-unsigned, mul-unsigned, absTotal-unsigned}
 use Rattle.quantising_bounds.proofs.Units.{Counts, add-near, mul-near, whole-float}
 use Rattle.quantising_bounds.proofs.Losses.{Under, under-start, under-round, under-add, under-mul, under-all}
 

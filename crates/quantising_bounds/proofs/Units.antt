@@ -14,8 +14,8 @@ use lib.Ieee.Fits.{down-pos}
 use lib.Ieee.Nearest.{nearest-ge, div-same}
 use lib.Ieee.Positive.{num, den, value→cross}
 use lib.Ieee.Scale.{finite, grid, round-same, round-under, round-val}
-use Rattle.quantising.specs.Steps.{_⊕_, _⊗_, float}
-use Rattle.quantising.proofs.Unsigned.{Unsigned}
+use Rattle.scaling.specs.Steps.{_⊕_, _⊗_, float}
+use Rattle.scaling.proofs.Unsigned.{Unsigned}
 
 -- x is finite, and n units in size
 pub record Counts (x : Float) (n : ℕ) : Type 0 where

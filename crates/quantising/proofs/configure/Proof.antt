@@ -18,9 +18,10 @@ use Rattle.floats.proofs.Compared.{not-was-true, not-was-false}
 use Rattle.rounding.proofs.Holding.{Handed, handed, outside}
 use Rattle.kinds.specs.Widths.{bitsOf}
 use Rattle.rule.specs.Prediction.{admitted}
-use Rattle.quantising.specs.Steps.{_⊗_, float, scaleOf, weightOf, weightsHold, biasOf, biasHolds, Outcome, found, settled, outcome}
-use Rattle.quantising.specs.declared.Scale.the-variants.{By}
-use Rattle.quantising.proofs.Scaling.{shift-fits}
+use Rattle.scaling.specs.Steps.{_⊗_, float, scaleOf}
+use Rattle.quantising.specs.Steps.{weightOf, weightsHold, biasOf, biasHolds, Outcome, found, settled, outcome}
+use Rattle.scaling.specs.declared.Scale.the-variants.{By}
+use Rattle.scaling.proofs.Scaling.{shift-fits}
 use Rattle.quantising.proofs.Settling.{power-exact, power-is, no-scale, past-scale, no-weights, no-bias, not-admitted, is-admitted, nothing-found}
 use Rattle.quantising.proofs.configure.Statement.{statement}
 use Rattle.quantising.proofs.configure.Tie as tie

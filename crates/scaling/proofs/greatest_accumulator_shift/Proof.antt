@@ -1,12 +1,12 @@
--- `quantising::greatest_accumulator_shift` meets its contract: the number in each arm is the definition's at that width.
+-- `scaling::greatest_accumulator_shift` meets its contract: the number in each arm is the definition's at that width.
 use mathlib.Core.Path.{sym, ap}
 use borrow.Author.Needs.{needs}
 use Rattle.kinds.specs.declared.Width.{Width}
 use Rattle.kinds.specs.Widths.{bitsOf}
 use Prim.Native.Nat.{_-_}
 use Rattle.rule.specs.Numbers.{accumulator}
-use Rattle.quantising.proofs.greatest_accumulator_shift.Statement.{statement}
-use Rattle.quantising.proofs.greatest_accumulator_shift.Tie as tie
+use Rattle.scaling.proofs.greatest_accumulator_shift.Statement.{statement}
+use Rattle.scaling.proofs.greatest_accumulator_shift.Tie as tie
 
 enum-told : tie.Need-enum-told
 enum-told c = search needs

@@ -1,13 +1,13 @@
--- `quantising::greatest_sample` meets its contract: the number in each arm is the definition's at that width.
+-- `scaling::greatest_sample` meets its contract: the number in each arm is the definition's at that width.
 use mathlib.Core.Path.{sym, ap, _∙_}
 use borrow.Author.Needs.{needs}
 use Rattle.kinds.specs.declared.Width.{Width}
 use Rattle.kinds.specs.Widths.{bitsOf}
 use Rattle.rule.specs.Numbers.{greatest}
-use Rattle.quantising.specs.Steps.{float}
-use Rattle.quantising.proofs.Constants.{sample-8, sample-16, sample-32}
-use Rattle.quantising.proofs.greatest_sample.Statement.{statement}
-use Rattle.quantising.proofs.greatest_sample.Tie as tie
+use Rattle.scaling.specs.Steps.{float}
+use Rattle.scaling.proofs.Constants.{sample-8, sample-16, sample-32}
+use Rattle.scaling.proofs.greatest_sample.Statement.{statement}
+use Rattle.scaling.proofs.greatest_sample.Tie as tie
 
 enum-told : tie.Need-enum-told
 enum-told c = search needs

@@ -14,10 +14,10 @@ use lib.Ieee.Bits.{is-true, is-false}
 use lib.Ieee.Scale.{finite}
 use Rattle.floats.specs.Values.{magnitude, exponentOf}
 use Rattle.rule.specs.Numbers.{greatest, accumulator}
-use Rattle.quantising.specs.Steps.{_⊕_, _⊖_, _⊗_, float, total, absTotal, floatBias, divisor, quotient, greatestShift, scaleAt, given, scaleOf}
-use Rattle.quantising.specs.declared.Scale.{Scale}
-use Rattle.quantising.specs.declared.Scale.the-variants.{Nothing, By}
-use Rattle.quantising.proofs.Constants.{one-is}
+use Rattle.scaling.specs.Steps.{_⊕_, _⊖_, _⊗_, float, total, absTotal, floatBias, divisor, quotient, greatestShift, scaleAt, given, scaleOf}
+use Rattle.scaling.specs.declared.Scale.{Scale}
+use Rattle.scaling.specs.declared.Scale.the-variants.{Nothing, By}
+use Rattle.scaling.proofs.Constants.{one-is}
 
 -- ---- the code's terms, where 1.0 is its bit pattern
 abbrev pub oneBits : Float

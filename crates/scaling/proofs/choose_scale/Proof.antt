@@ -1,4 +1,4 @@
--- `quantising::choose_scale` meets its contract: it goes through steps 1 to 4 in their order, and the quotient of step 3 has an exponent.
+-- `scaling::choose_scale` meets its contract: it goes through steps 1 to 4 in their order, and the quotient of step 3 has an exponent.
 use mathlib.Core.Path.{_≡_, sym, ap, ap₂, _∙_, subst}
 use mathlib.Core.Bool.{true}
 use mathlib.Core.List.{List}
@@ -14,14 +14,14 @@ use Rattle.floats.specs.Values.{magnitude, exponentOf}
 use Rattle.floats.proofs.Compared.{yes, not-was-true, not-was-false}
 use Rattle.kinds.specs.Widths.{bitsOf}
 use Rattle.rule.specs.Numbers.{accumulator}
-use Rattle.quantising.specs.Steps.{_⊕_, _⊗_, _⊖_, _⊘_, float, total, absTotal, floatBias, divisor, quotient, greatestShift, scaleAt, scaleOf}
-use Rattle.quantising.specs.declared.Scale.{Scale}
-use Rattle.quantising.specs.declared.Scale.the-variants.{Nothing, By}
-use Rattle.quantising.proofs.Unsigned.{absTotal-unsigned}
-use Rattle.quantising.proofs.Divisors.{quotient-positive}
-use Rattle.quantising.proofs.Scaling.{oneBits, bias-is, divisor-is, no-total, no-absTotal, no-divisor, past-divisor, scale-negative, scale-by}
-use Rattle.quantising.proofs.choose_scale.Statement.{statement}
-use Rattle.quantising.proofs.choose_scale.Tie as tie
+use Rattle.scaling.specs.Steps.{_⊕_, _⊗_, _⊖_, _⊘_, float, total, absTotal, floatBias, divisor, quotient, greatestShift, scaleAt, scaleOf}
+use Rattle.scaling.specs.declared.Scale.{Scale}
+use Rattle.scaling.specs.declared.Scale.the-variants.{Nothing, By}
+use Rattle.scaling.proofs.Unsigned.{absTotal-unsigned}
+use Rattle.scaling.proofs.Divisors.{quotient-positive}
+use Rattle.scaling.proofs.Scaling.{oneBits, bias-is, divisor-is, no-total, no-absTotal, no-divisor, past-divisor, scale-negative, scale-by}
+use Rattle.scaling.proofs.choose_scale.Statement.{statement}
+use Rattle.scaling.proofs.choose_scale.Tie as tie
 
 -- ---- what is given
 module _ (c : tie.Start) where

@@ -16,8 +16,8 @@ use Rattle.kinds.specs.declared.Width.{Width}
 use Rattle.kinds.specs.declared.Width.the-variants.{Eight, Sixteen, ThirtyTwo}
 use Rattle.kinds.specs.Widths.{bitsOf}
 use Rattle.rule.specs.Numbers.{greatest, limit}
-use Rattle.quantising.specs.Steps.{_⊕_, _⊗_, _⊘_, float, divisor, quotient}
-use Rattle.quantising.proofs.Unsigned.{Unsigned, float-unsigned, magnitude-unsigned, add-unsigned, mul-unsigned}
+use Rattle.scaling.specs.Steps.{_⊕_, _⊗_, _⊘_, float, divisor, quotient}
+use Rattle.scaling.proofs.Unsigned.{Unsigned, float-unsigned, magnitude-unsigned, add-unsigned, mul-unsigned}
 
 one-positive : T (positive (float 1))
 unfolding ofInt

@@ -2,7 +2,7 @@
 use mathlib.Core.Path.{_≡_, refl}
 use lib.Ieee.{binary64, ofBits, ofInt}
 use Rattle.rule.specs.Numbers.{greatest, limit}
-use Rattle.quantising.specs.Steps.{float}
+use Rattle.scaling.specs.Steps.{float}
 
 pub zero-is : ofBits binary64 0 ≡ float 0
 unfolding ofBits ofInt

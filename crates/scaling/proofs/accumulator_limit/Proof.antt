@@ -1,13 +1,13 @@
--- `quantising::accumulator_limit` meets its contract: the number in each arm is the definition's at that width.
+-- `scaling::accumulator_limit` meets its contract: the number in each arm is the definition's at that width.
 use mathlib.Core.Path.{sym, ap, _∙_}
 use borrow.Author.Needs.{needs}
 use Rattle.kinds.specs.declared.Width.{Width}
 use Rattle.kinds.specs.Widths.{bitsOf}
 use Rattle.rule.specs.Numbers.{limit}
-use Rattle.quantising.specs.Steps.{float}
-use Rattle.quantising.proofs.Constants.{limit-8, limit-16, limit-32}
-use Rattle.quantising.proofs.accumulator_limit.Statement.{statement}
-use Rattle.quantising.proofs.accumulator_limit.Tie as tie
+use Rattle.scaling.specs.Steps.{float}
+use Rattle.scaling.proofs.Constants.{limit-8, limit-16, limit-32}
+use Rattle.scaling.proofs.accumulator_limit.Statement.{statement}
+use Rattle.scaling.proofs.accumulator_limit.Tie as tie
 
 enum-told : tie.Need-enum-told
 enum-told c = search needs

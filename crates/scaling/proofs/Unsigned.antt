@@ -7,7 +7,7 @@ use lib.Dec.{ltb, eqb}
 use lib.Ieee.{Float, nan, inf, fin, Format, binary64, prec, emax, low, up, down, odd, units, round, sum, add, mul, ofInt}
 use lib.Ieee.Fits.{round-is}
 use Rattle.floats.specs.Values.{isNegative, magnitude}
-use Rattle.quantising.specs.Steps.{_⊕_, _⊗_, float, sumFrom, absTotal}
+use Rattle.scaling.specs.Steps.{_⊕_, _⊗_, float, sumFrom, absTotal}
 
 abbrev pub Unsigned : Float → Type 0
 Unsigned x = isNegative x ≡ false

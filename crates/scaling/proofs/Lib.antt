@@ -1,0 +1,5 @@
+pub mod Turns
+mod Constants
+pub mod Unsigned
+pub mod Divisors
+pub mod Scaling
