@@ -1,4 +1,4 @@
--- `floats::cut` meets its contract: the parts' whole part, with their sign, is the integer of the exact rule.
+-- `rounding::cut` meets its contract: the parts' whole part, with their sign, is the integer of the exact rule.
 use mathlib.Core.Path.{sym, ap, _∙_}
 use Rattle.floats.proofs.Compared.{yes, not-was-false, not-was-true}
 use Rattle.rounding.proofs.Signs.{fitted, cut-held, none-held}

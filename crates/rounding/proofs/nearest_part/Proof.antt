@@ -1,4 +1,4 @@
--- `floats::nearest_part` meets its contract: a number with no digits to drop is whole already, and otherwise half is added before they go.
+-- `rounding::nearest_part` meets its contract: a number with no digits to drop is whole already, and otherwise half is added before they go.
 use mathlib.Core.Path.{ap, _∙_}
 use Prim.Native.Nat.{ℕ, _-_, _^_, min}
 use borrow.Author.Needs.{needs}

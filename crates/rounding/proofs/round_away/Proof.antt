@@ -1,4 +1,4 @@
--- `floats::round_away` meets its contract: the parts' nearest whole number, with their sign, is the integer of the exact rule.
+-- `rounding::round_away` meets its contract: the parts' nearest whole number, with their sign, is the integer of the exact rule.
 use mathlib.Core.Path.{sym, ap, _∙_}
 use Rattle.floats.proofs.Compared.{yes, not-was-false, not-was-true}
 use Rattle.rounding.proofs.Signs.{fitted, rounded-held, none-held}

@@ -1,4 +1,4 @@
--- `floats::whole_part` meets its contract: each arm is one law of shifts.
+-- `rounding::whole_part` meets its contract: each arm is one law of shifts.
 use borrow.Author.Needs.{needs}
 use Rattle.rounding.proofs.WholeParts.{whole-above, whole-left, whole-below, whole-right}
 use Rattle.rounding.proofs.whole_part.Statement.{statement}

@@ -1,4 +1,4 @@
--- `floats::with_sign` meets its contract: each arm is one law of a size with its sign.
+-- `rounding::with_sign` meets its contract: each arm is one law of a size with its sign.
 use mathlib.Core.Path.{_≡_, sym, ap, _∙_}
 use mathlib.Core.Bool.{Bool, true, false}
 use borrow.Author.Needs.{needs}
