@@ -18,7 +18,7 @@ use mir.Facts.{toZ-ofZ}
 use Rattle.rule.specs.Numbers.{accumulator}
 use Rattle.rule.specs.Prediction.{admitted, sumAt}
 use Rattle.rule.proofs.Sums.{prefix-inside, product-inside, fits, sum-next, sum-whole}
-use Rattle.order_six.specs.Running.{six, runningSums, Runs, shifted}
+use Rattle.order_six.specs.Running.{six, runningSums, Runs, Grows, shifted}
 
 -- six elements are the list
 pub six-are : {A : Type 0} (d : A) (l : List A) → length l ≡ 6
@@ -39,6 +39,11 @@ back w h = toZ-ofZ (record { sfits = h })
 -- and it is itself in a wider number's bits
 pub wider : (w v : Width) {z r : ℤ} → mag z < 2 ^ hbits w → SFits v z → r ≡ toZ w (ofZ w z) → toZ v (ofZ v r) ≡ z
 wider w v h fit e = rw (e, back w h) (toZ-ofZ fit)
+
+-- a sum with a term more, from its bits
+pub grown : {w : Width} {ns ws : List ℤ} {j y : ℕ} → Grows w ns ws j y → {v : ℤ} → v ≡ getD ns j (pos 0) +ℤ getD ws (6 - j) (pos 0) *ℤ pos y
+    → toZ w (ofZ w v) ≡ getD ns j (pos 0) +ℤ getD ws (6 - j) (pos 0) *ℤ pos y
+grown g e = rw e (toZ-ofZ (g .sum))
 
 -- the oldest of six samples goes, and y comes
 pub shifted-are : (xs : List ℕ) (y : ℕ) → length xs ≡ 6 → six (getD xs 1 0) (getD xs 2 0) (getD xs 3 0) (getD xs 4 0) (getD xs 5 0) y ≡ shifted xs y
@@ -132,6 +137,13 @@ module _ {W : ℕ} {bias : ℤ} {ws : List ℤ} {xs : List ℕ} {ns : List ℤ} 
       → mag n < 2 ^ hbits w → mag (getD ws i (pos 0)) < 2 ^ hbits w
       → v ≡ toZ w (ofZ w n) +ℤ toZ w (ofZ w (getD ws i (pos 0))) *ℤ pos y → toZ w (ofZ w v) ≡ n +ℤ getD ws i (pos 0) *ℤ pos y
   made w e i h n v is hn hw ev = rw (ev, back w {z = n} hn, back w {z = getD ws i (pos 0)} hw) (toZ-ofZ (asked w e i h n is .1))
+
+  -- and from the sum in place j, which has a term for each of the first 6 - j weights
+  pub grows : (w : Width) → accumulator W - 1 ≤ hbits w → (j : ℕ) → 1 ≤ j → j < 6
+      → getD ns j (pos 0) ≡ sumAt bias (take (6 - j) ws) (drop (6 - (6 - j)) xs) → Grows w ns ws j y
+  grows w e j some few is =
+      let a = asked w e (6 - j) (omega arith) (getD ns j (pos 0)) is in
+      record { sums = ap length (r .sums); weights = r .weights; some = some; few = few; product = a .0; sum = a .1 }
 
   -- the sum of i terms is n, and with one more it is v
   one-more : (i : ℕ) → i < 6 → {n v : ℤ} → n ≡ sumAt bias (take i ws) (drop (6 - i) xs) → v ≡ n +ℤ getD ws i (pos 0) *ℤ pos y

@@ -2,9 +2,11 @@
 use mathlib.Core.Path.{_≡_}
 use mathlib.Core.Bool.{true}
 use mathlib.Core.List.{List, [], _∷_, _++_}
-use Prim.Native.Nat.{ℕ, _^_, _<_}
-use lib.IntN.{ℤ}
+use Prim.Native.Nat.{ℕ, _-_, _^_, _≤_, _<_}
+use lib.IntN.{ℤ, pos, _+ℤ_, _*ℤ_}
 use lib.ListN.{length, getD, take, drop}
+use mir.Syntax.{Width}
+use mir.Val.{SFits}
 use Rattle.rule.specs.Prediction.{admitted, sumAt}
 
 abbrev pub six : {A : Type 0} → A → A → A → A → A → A → List A
@@ -27,6 +29,15 @@ pub record Runs (W : ℕ) (bias : ℤ) (ws : List ℤ) (xs : List ℕ) (ns : Lis
   pub admits : admitted W bias ws ≡ true
   pub below : (i : ℕ) → getD xs i 0 < 2 ^ W
   pub sums : ns ≡ runningSums bias ws xs
+
+-- the sum in place j has room for one term more
+pub record Grows (w : Width) (ns ws : List ℤ) (j y : ℕ) : Type 0 where
+  pub sums : length ns ≡ 6
+  pub weights : length ws ≡ 6
+  pub some : 1 ≤ j
+  pub few : j < 6
+  pub product : SFits w (getD ws (6 - j) (pos 0) *ℤ pos y)
+  pub sum : SFits w (getD ns j (pos 0) +ℤ getD ws (6 - j) (pos 0) *ℤ pos y)
 
 -- the oldest sample goes and y comes
 abbrev pub shifted : List ℕ → ℕ → List ℕ
