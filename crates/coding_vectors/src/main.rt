@@ -3,20 +3,18 @@
 // buffer and of the saved state's array. Where there are residuals there follow the check sums of what decoding in pieces gives and of the
 // last state's array, and whether the outputs, and the last state, are the trace again. The first line of a case is the general way,
 // the second the way that a user calls.
-use kinds::Order;
-use kinds::Shift;
-use libc::STDOUT_FILENO;
-ghost use Prim.Native.Nat.{_<_, _^_};
+use trial::Case;
+use trial::Way;
+ghost use Prim.Native.Nat.{_≤_};
 
+mod saying;
+mod trial;
 mod w16;
 mod w32;
 mod w8;
 
-// The longest trace.
-const MOST: usize = 2048;
-
 // Weights that the three widths admit, whatever the order.
-const NARROW: [i32; 32] = [
+const NARROW: [i32; 33] = [
     1,
     -2,
     -3,
@@ -49,9 +47,10 @@ const NARROW: [i32; 32] = [
     2,
     0,
     -2,
+    0,
 ];
 
-const MIDDLE: [i32; 32] = [
+const MIDDLE: [i32; 33] = [
     -892,
     -369,
     -573,
@@ -84,9 +83,10 @@ const MIDDLE: [i32; 32] = [
     328,
     -233,
     -540,
+    0,
 ];
 
-const WIDE: [i32; 32] = [
+const WIDE: [i32; 33] = [
     55616,
     57076,
     -42731,
@@ -119,67 +119,54 @@ const WIDE: [i32; 32] = [
     -28012,
     17682,
     22615,
+    0,
 ];
 
-fn say(text: &[u8]) {
-    io::write_all(STDOUT_FILENO, text);
-}
-
-fn say_number(n: u64) {
-    say(b" ");
-    io::print_decimal(STDOUT_FILENO, n);
-}
-
-fn say_signed(z: i64) {
-    if z < 0 {
-        say(b" -");
-        io::print_decimal(STDOUT_FILENO, limits::magnitude(z));
-        return;
-    }
-    say_number(limits::magnitude(z));
-}
-
-fn say_yes(whole: bool) {
-    if whole {
-        say(b" whole");
-        return;
-    }
-    say(b" BROKEN");
-}
-
-fn say_case(width: u64, order: Order, shift: Shift, bias: i64, n: usize) {
-    io::print_decimal(STDOUT_FILENO, width);
-    say_number(order.0 as u64);
-    say_number(shift.0 as u64);
-    say_signed(bias);
-    say_number(n as u64);
-    say(b":");
-}
-
-// The next of a row of numbers that look like chance.
-fn next(seed: u64) -> u64
-    ensures { λ r. ⌜ r < 2 ^ 32 ⌝ }
+// A line for each way.
+fn run(c: Case, weights: [i32; 33])
+    requires { ⌜ (c .given ≤ 33) × (c .count ≤ 2048) ⌝ }
 {
-    (seed % 4294967291 * 1664525 + 1013904223) % 4294967291
+    trial::run(c, weights, Way::General);
+    trial::run(c, weights, Way::User);
 }
 
-fn mixed(sum: u64, x: u64) -> u64
-    ensures { λ r. ⌜ r < 2 ^ 32 ⌝ }
+// One order and length at the three widths.
+fn at_widths(order: usize, count: usize)
+    requires { ⌜ (order ≤ 33) × (count ≤ 2048) ⌝ }
 {
-    (sum % 4294967291 * 65599 + x % 4294967296) % 4294967291
-}
-
-// One configuration at the three widths.
-fn at_widths(order: usize, n: usize) {
-    if 32 < order {
-        return;
-    }
-    let narrow = NARROW;
-    let middle = MIDDLE;
-    let wide = WIDE;
-    w8::case(Order(order), Shift(1), -100, &narrow[..order], n);
-    w16::case(Order(order), Shift(9), -70000, &middle[..order], n);
-    w32::case(Order(order), Shift(15), 8000000000, &wide[..order], n);
+    run(
+        Case {
+            width: 8,
+            order,
+            shift: 1,
+            bias: -100,
+            given: order,
+            count,
+        },
+        NARROW,
+    );
+    run(
+        Case {
+            width: 16,
+            order,
+            shift: 9,
+            bias: -70000,
+            given: order,
+            count,
+        },
+        MIDDLE,
+    );
+    run(
+        Case {
+            width: 32,
+            order,
+            shift: 15,
+            bias: 8000000000,
+            given: order,
+            count,
+        },
+        WIDE,
+    );
 }
 
 fn every_order() {
@@ -192,10 +179,9 @@ fn every_order() {
     }
 }
 
-fn every_length(order: usize) {
-    if 32 < order {
-        return;
-    }
+fn every_length(order: usize)
+    requires { ⌜ order ≤ 32 ⌝ }
+{
     at_widths(order, order + 1);
     at_widths(order, 511);
     at_widths(order, 512);
@@ -212,48 +198,202 @@ fn every_length(order: usize) {
     at_widths(order, 2016);
 }
 
+fn edge_of(width: u64, order: usize, shift: u32, bias: i64, first: [i32; 3])
+    requires { ⌜ order ≤ 3 ⌝ }
+{
+    let mut weights = [0i32; 33];
+    weights[0] = first[0];
+    weights[1] = first[1];
+    weights[2] = first[2];
+    run(
+        Case {
+            width,
+            order,
+            shift,
+            bias,
+            given: order,
+            count: 600,
+        },
+        weights,
+    );
+}
+
+fn edge(width: u64, shift: u32, bias: i64, weight: i32) {
+    edge_of(width, 1, shift, bias, [weight, 0, 0]);
+}
+
 // Shifts at both ends, sums at the accumulator's edges, sums below 0 and predictions that wrap.
 fn edges() {
-    w8::case(Order(1), Shift(0), 127, &[128], 600);
-    w8::case(Order(1), Shift(0), 128, &[128], 600);
-    w8::case(Order(1), Shift(15), -127, &[-128], 600);
-    w8::case(Order(1), Shift(0), -128, &[-128], 600);
-    w8::case(Order(1), Shift(16), 0, &[1], 600);
-    w8::case(Order(2), Shift(0), 0, &[64, 64], 600);
-    w8::case(Order(2), Shift(6), 0, &[-64, 128], 600);
-    w8::case(Order(1), Shift(0), -9223372036854775808, &[0], 600);
-    w16::case(Order(1), Shift(0), 32767, &[32768], 600);
-    w16::case(Order(1), Shift(0), 65535, &[32768], 600);
-    w16::case(Order(1), Shift(0), 0, &[32769], 600);
-    w16::case(Order(1), Shift(31), -65535, &[-32767], 600);
-    w16::case(Order(1), Shift(32), 0, &[1], 600);
-    w32::case(Order(1), Shift(0), 0, &[2147483647], 600);
-    w32::case(Order(1), Shift(0), 2147483647, &[-2147483648], 600);
-    w32::case(Order(1), Shift(0), 2147483648, &[-2147483648], 600);
-    w32::case(Order(1), Shift(63), -9223372036854775807, &[0], 600);
-    w32::case(Order(1), Shift(0), -9223372036854775808, &[0], 600);
-    w32::case(Order(1), Shift(64), 0, &[1], 600);
-    w32::case(Order(3), Shift(0), 0, &[-2147483648, -2147483648, 2], 600);
-    w32::case(Order(1), Shift(0), 0, &[2], 600);
+    edge(8, 0, 127, 128);
+    edge(8, 0, 128, 128);
+    edge(8, 15, -127, -128);
+    edge(8, 0, -128, -128);
+    edge(8, 16, 0, 1);
+    edge_of(8, 2, 0, 0, [64, 64, 0]);
+    edge_of(8, 2, 6, 0, [-64, 128, 0]);
+    edge(8, 0, -9223372036854775808, 0);
+    edge(16, 0, 32767, 32768);
+    edge(16, 0, 65535, 32768);
+    edge(16, 0, 0, 32769);
+    edge(16, 31, -65535, -32767);
+    edge(16, 32, 0, 1);
+    edge(32, 0, 0, 2147483647);
+    edge(32, 0, 2147483647, -2147483648);
+    edge(32, 0, 2147483648, -2147483648);
+    edge(32, 63, -9223372036854775807, 0);
+    edge(32, 0, -9223372036854775808, 0);
+    edge(32, 64, 0, 1);
+    edge_of(32, 3, 0, 0, [-2147483648, -2147483648, 2]);
+    edge(32, 0, 0, 2);
 }
 
 // One fault, and faults that meet: the first in the order 1, 2, 4, 3, 5 is told.
 fn refusals() {
-    let many: [i32; 33] = [0; 33];
-    let least: [i32; 32] = [-2147483648; 32];
-    w16::case(Order(0), Shift(0), 0, &many[..0], 5);
-    w16::case(Order(33), Shift(0), 0, &many, 50);
-    w16::case(Order(33), Shift(32), 0, &many[..1], 5);
-    w16::case(Order(2), Shift(32), 0, &many[..1], 1);
-    w16::case(Order(2), Shift(31), 0, &many[..1], 1);
-    w16::case(Order(2), Shift(0), 0, &least[..3], 1);
-    w16::case(Order(2), Shift(0), 0, &least[..2], 1);
-    w16::case(Order(2), Shift(0), 0, &many[..2], 1);
-    w16::case(Order(2), Shift(0), 0, &many[..2], 0);
-    w16::case(Order(2), Shift(0), 0, &many[..2], 2);
-    w32::case(Order(32), Shift(63), -9223372036854775808, &least, 100);
-    w32::case(Order(32), Shift(63), 0, &many[..32], 31);
-    w8::case(Order(32), Shift(15), 0, &many[..32], 32);
+    let zeros = [0i32; 33];
+    let least = [-2147483648i32; 33];
+    run(
+        Case {
+            width: 16,
+            order: 0,
+            shift: 0,
+            bias: 0,
+            given: 0,
+            count: 5,
+        },
+        zeros,
+    );
+    run(
+        Case {
+            width: 16,
+            order: 33,
+            shift: 0,
+            bias: 0,
+            given: 33,
+            count: 50,
+        },
+        zeros,
+    );
+    run(
+        Case {
+            width: 16,
+            order: 33,
+            shift: 32,
+            bias: 0,
+            given: 1,
+            count: 5,
+        },
+        zeros,
+    );
+    run(
+        Case {
+            width: 16,
+            order: 2,
+            shift: 32,
+            bias: 0,
+            given: 1,
+            count: 1,
+        },
+        zeros,
+    );
+    run(
+        Case {
+            width: 16,
+            order: 2,
+            shift: 31,
+            bias: 0,
+            given: 1,
+            count: 1,
+        },
+        zeros,
+    );
+    run(
+        Case {
+            width: 16,
+            order: 2,
+            shift: 0,
+            bias: 0,
+            given: 3,
+            count: 1,
+        },
+        least,
+    );
+    run(
+        Case {
+            width: 16,
+            order: 2,
+            shift: 0,
+            bias: 0,
+            given: 2,
+            count: 1,
+        },
+        least,
+    );
+    run(
+        Case {
+            width: 16,
+            order: 2,
+            shift: 0,
+            bias: 0,
+            given: 2,
+            count: 1,
+        },
+        zeros,
+    );
+    run(
+        Case {
+            width: 16,
+            order: 2,
+            shift: 0,
+            bias: 0,
+            given: 2,
+            count: 0,
+        },
+        zeros,
+    );
+    run(
+        Case {
+            width: 16,
+            order: 2,
+            shift: 0,
+            bias: 0,
+            given: 2,
+            count: 2,
+        },
+        zeros,
+    );
+    run(
+        Case {
+            width: 32,
+            order: 32,
+            shift: 63,
+            bias: -9223372036854775808,
+            given: 32,
+            count: 100,
+        },
+        least,
+    );
+    run(
+        Case {
+            width: 32,
+            order: 32,
+            shift: 63,
+            bias: 0,
+            given: 32,
+            count: 31,
+        },
+        zeros,
+    );
+    run(
+        Case {
+            width: 8,
+            order: 32,
+            shift: 15,
+            bias: 0,
+            given: 32,
+            count: 32,
+        },
+        zeros,
+    );
 }
 
 fn main() {

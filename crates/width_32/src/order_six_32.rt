@@ -6,7 +6,7 @@ use kinds::Shift;
 use kinds::Width;
 ghost use mathlib.Core.Path.{_≡_};
 ghost use mathlib.Core.Bool.{true};
-ghost use Prim.Native.Nat.{ℕ};
+ghost use Prim.Native.Nat.{ℕ, _-_};
 ghost use lib.IntN.{pos, _+ℤ_, _*ℤ_};
 ghost use lib.ListN.{length, getD};
 ghost use mir.Syntax.{w64 as wide};
@@ -16,7 +16,7 @@ ghost use Rattle.rule.specs.Prediction.{admitted};
 ghost use Rattle.rule.specs.Coding.{decodedPiece, newState};
 ghost use Rattle.rule.specs.Refusals.{config, predictor, orderSixRefusal};
 ghost use Rattle.decoding.specs.Steps.{Startable, Decodes};
-ghost use Rattle.order_six.specs.Running.{six, Runs, shifted};
+ghost use Rattle.order_six.specs.Running.{Runs, Grows, shifted};
 
 // The accumulator.
 type Conv = i64;
@@ -67,6 +67,14 @@ fn shift_in(samples: [u32; 6], latent: u32) -> [u32; 6]
     ]
 }
 
+// The sum in place j, with the term of its next weight more.
+fn more(sums: [Wide; 6], weights: [Wide; 6], j: usize, latent: u32) -> Wide
+    requires { ⌜ Grows wide sums weights j latent ⌝ }
+    ensures { λ r. ⌜ r ≡ getD sums j (pos 0) +ℤ getD weights (6 - j) (pos 0) *ℤ pos latent ⌝ }
+{
+    added(sums[j], weights[6 - j], latent)
+}
+
 // A new sample's terms go into the six sums at once: a prediction then waits for one product alone.
 fn next_sums(running: Running, weights: [Wide; 6], bias: Wide, latent: u32) -> [Wide; 6]
     requires { ⌜ Runs 32 bias weights (running .samples) (running .sums) ⌝ }
@@ -74,11 +82,11 @@ fn next_sums(running: Running, weights: [Wide; 6], bias: Wide, latent: u32) -> [
 {
     let n = running.sums;
     [
-        added(n[1], weights[5], latent),
-        added(n[2], weights[4], latent),
-        added(n[3], weights[3], latent),
-        added(n[4], weights[2], latent),
-        added(n[5], weights[1], latent),
+        more(n, weights, 1, latent),
+        more(n, weights, 2, latent),
+        more(n, weights, 3, latent),
+        more(n, weights, 4, latent),
+        more(n, weights, 5, latent),
         added(bias, weights[0], latent),
     ]
 }

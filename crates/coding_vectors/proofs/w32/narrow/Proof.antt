@@ -1,0 +1,61 @@
+-- Bounds alone: what the program prints is compared. Assumes nothing.
+use mathlib.Core.Path.{_≡_}
+use Prim.Native.Nat.{_-_}
+use borrow.Author.Needs.{needs}
+use lib.ListN.{length}
+use Rattle.coding_vectors.proofs.w32.narrow.Statement.{statement}
+use Rattle.coding_vectors.proofs.w32.narrow.Tie as tie
+
+abbrev Inv-loop : tie.InvT-loop
+Inv-loop numbers row₀ i₀ row i = 2048 ≡ length row
+
+abbrev μ-loop : tie.MeasureT-loop
+μ-loop numbers row₀ i₀ row i = 2048 - i
+
+loop-holds : tie.Need-loop-holds Inv-loop μ-loop
+loop-holds c = search needs
+
+mul-row : tie.Need-mul-row Inv-loop μ-loop
+mul-row c = search needs
+
+array-read-row : tie.Need-array-read-row Inv-loop μ-loop
+array-read-row c = search needs
+
+cast-row : tie.Need-cast-row Inv-loop μ-loop
+cast-row c = search needs
+
+-- the place in bytes
+mul-row-2 : tie.Need-mul-row-2 Inv-loop μ-loop
+mul-row-2 c = search needs
+
+array-write-row : tie.Need-array-write-row Inv-loop μ-loop
+array-write-row c = search needs
+
+add-i : tie.Need-add-i Inv-loop μ-loop
+add-i c = search needs
+
+loop-less : tie.Need-loop-less Inv-loop μ-loop
+loop-less c = search needs
+
+loop-again : tie.Need-loop-again Inv-loop μ-loop
+loop-again c = search needs
+
+returns : tie.Need-returns Inv-loop μ-loop
+returns c = search needs
+
+pub narrow-spec : {M : Type 1} → statement M
+narrow-spec =
+    tie.close
+    (tie.spec
+    Inv-loop
+    μ-loop
+    loop-holds
+    mul-row
+    array-read-row
+    cast-row
+    mul-row-2
+    array-write-row
+    add-i
+    loop-less
+    loop-again
+    returns)
