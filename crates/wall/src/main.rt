@@ -3,80 +3,85 @@
 // residuals are cut into pieces, the pieces are decoded in order, and what comes of it is printed. Bad input gets one line and nothing else:
 // the refusal's number, or `(text)` where the text is no such input, the place, and what is wrong there. The text is read before anything is
 // coded, so a fault of the text is told before a refusal.
-use kinds::Answer;
 use libc::STDIN_FILENO;
 use reading::Configuration;
-use reading::Counted;
 use reading::Fault;
 use reading::Head;
+use reading::Numbers;
 use reading::Wanted;
 ghost use Prim.Native.Nat.{_≤_};
-ghost use lib.ListN.{length};
 
+mod coding;
 mod reading;
 mod refusing;
+mod report;
 mod saying;
-mod w16;
-mod w32;
-mod w8;
 
-// The longest input, in bytes. A trace of `MOST_SAMPLES` numbers of 32 bits fits.
+// The longest input, in bytes. A trace of 4096 numbers of 32 bits, the longest, fits.
 const MOST_BYTES: usize = 65536;
 
-// The longest trace. There is no heap, so each array has the size of the longest.
-const MOST_SAMPLES: usize = 4096;
-
-fn code(configuration: Configuration, weights: &[i32], values: &[u64]) -> Answer
-    requires { ⌜ length (now values) ≤ 4096 ⌝ }
-{
-    if configuration.width == 8 {
-        return w8::code(configuration, weights, values);
-    }
-    if configuration.width == 16 {
-        return w16::code(configuration, weights, values);
-    }
-    w32::code(configuration, weights, values)
-}
-
 // With the whole text read.
-fn with_trace(text: &[u8], configuration: Configuration, weights: &[i32], values: &[u64])
-    requires { ⌜ length (now values) ≤ 4096 ⌝ }
+fn with_trace(text: &[u8], c: Configuration, weights: Numbers, trace: Numbers)
+    requires { ⌜ (weights .count ≤ 4096) × (trace .count ≤ 4096) ⌝ }
 {
-    let answer = code(configuration, weights, values);
+    let coded = coding::encode(c, weights, trace);
+    let answer = coded.answer;
     if kinds::is_done(answer) {
+        report::report(c, weights, trace, coded);
         return;
     }
-    refusing::say_refusal(text, configuration, values.len(), answer);
+    refusing::say_refusal(text, c, trace.count, answer);
 }
 
 // With the first line read, up to `end`.
-fn with_weights(text: &[u8], end: usize, configuration: Configuration, weights: &[i32]) {
-    let mut values: [u64; 4096] = [0; 4096];
-    let most = reading::greatest(configuration.width);
-    let counted = reading::read_trace(text, end, most, &mut values);
-    match counted {
-        Counted::Unread(fault) => refusing::say_fault(text, fault),
-        Counted::Count(n) => with_trace(text, configuration, weights, &values[..n]),
+fn with_weights(text: &[u8], end: usize, c: Configuration, weights: Numbers)
+    requires { ⌜ weights .count ≤ 4096 ⌝ }
+{
+    let width = c.width;
+    let most = limits::greatest_sample(width);
+    let trace = reading::read_numbers(text, end, Wanted::Sample(most), 4096);
+    if trace.ended {
+        with_trace(text, c, weights, trace);
+        return;
     }
+    let wanted = if trace.count < 4096 {
+        Wanted::Sample(most)
+    } else {
+        Wanted::EndOfTrace
+    };
+    refusing::say_fault(
+        text,
+        Fault {
+            wanted,
+            at: trace.next,
+        },
+    );
 }
 
-// With the first four numbers of the first line read.
-fn with_head(text: &[u8], line: &[u8], configuration: Configuration) {
-    let mut weights: [i32; 33] = [0; 33];
-    let counted = reading::read_weights(line, configuration.end, &mut weights);
-    match counted {
-        Counted::Unread(fault) => refusing::say_fault(text, fault),
-        Counted::Count(n) => with_weights(text, line.len(), configuration, &weights[..n]),
+// With the first four numbers of the first line read. An order is at most 32, so that with more weights than 32 every coder gives the
+// same refusal, whatever they are and however many: one more than that is enough.
+fn with_head(text: &[u8], line: &[u8], c: Configuration) {
+    let weights = reading::read_numbers(line, c.end, Wanted::Weight, 33);
+    if !weights.ended && weights.count < 33 {
+        refusing::say_fault(
+            text,
+            Fault {
+                wanted: Wanted::Weight,
+                at: weights.next,
+            },
+        );
+        return;
     }
+    with_weights(text, line.len(), c, weights);
 }
 
 fn answer(text: &[u8]) {
     let end = places::line_length(text);
-    let line = &text[..end];
+    let line = &text[0..end];
     let head = reading::read_head(line);
     match head {
         Head::Unread(fault) => refusing::say_fault(text, fault),
-        Head::Read(configuration) => with_head(text, line, configuration),
+        Head::Read(c) => with_head(text, line, c),
     }
 }
 
@@ -93,5 +98,5 @@ fn main() {
         );
         return;
     }
-    answer(&input[..n]);
+    answer(&input[0..n]);
 }

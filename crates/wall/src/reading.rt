@@ -1,12 +1,11 @@
 // The configuration and the trace, read from the text.
 use kinds::Order;
 use kinds::Shift;
-use signed_numbers::Signed32;
+use kinds::Width;
 use signed_numbers::Signed64;
 use text::Found;
 use text::Word;
-ghost use lib.ListN.{length};
-ghost use Rattle.wall.specs.Bounds.{Within, Counts};
+ghost use Prim.Native.Nat.{_≤_};
 
 // What the text had to hold at a place where it holds something else.
 pub enum Wanted {
@@ -26,9 +25,10 @@ pub struct Fault {
     pub at: usize,
 }
 
-// The first four numbers of the first line, and where the fourth ends. The width is 8, 16 or 32.
+// The first four numbers of the first line, and where the fourth ends. `bits` is the width as a number.
 pub struct Configuration {
-    pub width: u64,
+    pub bits: u64,
+    pub width: Width,
     pub order: Order,
     pub shift: Shift,
     pub bias: i64,
@@ -40,25 +40,17 @@ pub enum Head {
     Read(Configuration),
 }
 
-// How many numbers were read.
-pub enum Counted {
-    Unread(Fault),
-    Count(usize),
-}
-
-// M, the greatest sample of a width.
-pub(crate) fn greatest(width: u64) -> u64 {
-    match width {
-        8 => 255,
-        16 => 65535,
-        _ => 4294967295,
-    }
+// Numbers in the first `count` places; a weight stands as its 32 bits. There is no heap, so there is room for the longest trace. Reading
+// stopped before the word at `next`, or at the end of the text.
+pub struct Numbers {
+    pub values: [u64; 4096],
+    pub count: usize,
+    pub next: usize,
+    pub ended: bool,
 }
 
 // A word's number where it has no sign and is at most `most`.
-fn within(word: Word, most: u64) -> Found
-    ensures { λ r. ⌜ Within r most ⌝ }
-{
+fn within(word: Word, most: u64) -> Found {
     if word.negative {
         return Found::Nothing;
     }
@@ -72,7 +64,32 @@ fn within(word: Word, most: u64) -> Found
     Found::Number(n)
 }
 
-fn width_of(word: Word) -> Found {
+// The 32 bits of a word's number where that is -2^31 to 2^31-1.
+fn weight_bits(word: Word) -> Found {
+    let found = word.found;
+    let Found::Number(n) = found else {
+        return Found::Nothing;
+    };
+    if word.negative {
+        if 2147483648 < n {
+            return Found::Nothing;
+        }
+        return Found::Number((4294967296 - n) % 4294967296);
+    }
+    if 2147483647 < n {
+        return Found::Nothing;
+    }
+    Found::Number(n)
+}
+
+fn number_of(word: Word, wanted: Wanted) -> Found {
+    match wanted {
+        Wanted::Sample(most) => within(word, most),
+        _ => weight_bits(word),
+    }
+}
+
+fn width_bits(word: Word) -> Found {
     let found = within(word, 32);
     let Found::Number(n) = found else {
         return Found::Nothing;
@@ -83,6 +100,14 @@ fn width_of(word: Word) -> Found {
     }
 }
 
+fn width_of(bits: u64) -> Width {
+    match bits {
+        8 => Width::Eight,
+        16 => Width::Sixteen,
+        _ => Width::ThirtyTwo,
+    }
+}
+
 fn unread(wanted: Wanted, word: Word) -> Head {
     Head::Unread(Fault {
         wanted,
@@ -90,9 +115,10 @@ fn unread(wanted: Wanted, word: Word) -> Head {
     })
 }
 
+// A shift was found within 32 bits, so the remainder is the number itself.
 pub(crate) fn read_head(line: &[u8]) -> Head {
     let first = text::next_word(line, 0);
-    let Found::Number(width) = width_of(first) else {
+    let Found::Number(bits) = width_bits(first) else {
         return unread(Wanted::Width, first);
     };
     let second = text::next_word(line, first.end);
@@ -108,73 +134,38 @@ pub(crate) fn read_head(line: &[u8]) -> Head {
         return unread(Wanted::Bias, fourth);
     };
     Head::Read(Configuration {
-        width,
+        bits,
+        width: width_of(bits),
         order: Order(order as usize),
-        shift: Shift(shift as u32),
+        shift: Shift((shift % 4294967296) as u32),
         bias,
         end: fourth.end,
     })
 }
 
-// The rest of the line, as many weights as there is room for. An order is at most 32, so that with more weights than 32 every coder
-// gives the same refusal, whatever they are and however many: one place more than that is room enough.
-pub(crate) fn read_weights(line: &[u8], from: usize, weights: &mut [i32]) -> Counted
-    ensures { λ r. ⌜ Counts r (length (now (weights .entry))) ⌝ }
+// The weights or samples from a place on, as many as there are and at most `most`.
+pub(crate) fn read_numbers(text: &[u8], from: usize, wanted: Wanted, most: usize) -> Numbers
+    requires { ⌜ most ≤ 4096 ⌝ }
+    ensures { λ r. ⌜ r .count ≤ most ⌝ }
 {
+    let mut values: [u64; 4096] = [0; 4096];
     let mut at = from;
-    let mut i = 0;
-    while i < weights.len() {
-        let word = text::next_word(line, at);
-        if word.start == word.end {
-            return Counted::Count(i);
-        }
-        let Signed32::Number(weight) = signed_numbers::to_signed_32(word) else {
-            return Counted::Unread(Fault {
-                wanted: Wanted::Weight,
-                at: word.start,
-            });
-        };
-        weights[i] = weight;
-        at = word.end;
-        i += 1;
-    }
-    Counted::Count(i)
-}
-
-// The count, where the text has no more words from a place on.
-fn ended(text: &[u8], from: usize, count: usize) -> Counted
-    ensures { λ r. ⌜ Counts r count ⌝ }
-{
-    let word = text::next_word(text, from);
-    if word.start == word.end {
-        return Counted::Count(count);
-    }
-    Counted::Unread(Fault {
-        wanted: Wanted::EndOfTrace,
-        at: word.start,
-    })
-}
-
-// The rest of the text, samples up to `most`.
-pub(crate) fn read_trace(text: &[u8], from: usize, most: u64, values: &mut [u64]) -> Counted
-    ensures { λ r. ⌜ Counts r (length (now (values .entry))) ⌝ }
-{
-    let mut at = from;
-    let mut i = 0;
-    while i < values.len() {
+    let mut count = 0;
+    while count < most {
         let word = text::next_word(text, at);
-        if word.start == word.end {
-            return Counted::Count(i);
-        }
-        let Found::Number(sample) = within(word, most) else {
-            return Counted::Unread(Fault {
-                wanted: Wanted::Sample(most),
-                at: word.start,
-            });
+        let found = number_of(word, wanted);
+        let Found::Number(n) = found else {
+            break;
         };
-        values[i] = sample;
+        values[count] = n;
         at = word.end;
-        i += 1;
+        count += 1;
     }
-    ended(text, at, i)
+    let word = text::next_word(text, at);
+    Numbers {
+        values,
+        count,
+        next: word.start,
+        ended: word.start == word.end,
+    }
 }

@@ -3,22 +3,20 @@ use crate::reading::Configuration;
 use crate::reading::Fault;
 use crate::reading::Wanted;
 use crate::saying::say;
-use crate::saying::say_number;
+use crate::saying::say_with;
 use kinds::Answer;
+use limits::accumulator_bits;
+use limits::accumulator_limit;
+use limits::greatest_sample;
 
 fn say_place(text: &[u8], at: usize) {
     let end = slices::least(at, text.len());
-    let place = places::place_after(&text[..end]);
-    say(b"line ");
-    say_number(place.line as u64);
-    say(b", column ");
-    say_number(place.column as u64);
-    say(b": ");
-}
-
-fn say_sample(most: u64) {
-    say(b"a sample was expected, a whole number from 0 to ");
-    say_number(most);
+    let place = places::place_after(&text[0..end]);
+    say_with(
+        b"line #, column #: ",
+        place.line as u64,
+        place.column as u64,
+    );
 }
 
 fn say_wanted(wanted: Wanted) {
@@ -32,7 +30,11 @@ fn say_wanted(wanted: Wanted) {
         Wanted::Weight => say(
             b"a weight was expected, a whole number from -2147483648 to 2147483647",
         ),
-        Wanted::Sample(most) => say_sample(most),
+        Wanted::Sample(most) => say_with(
+            b"a sample was expected, a whole number from 0 to #",
+            most,
+            0,
+        ),
         Wanted::EndOfTrace => say(b"the end was expected: a trace has at most 4096 samples"),
         Wanted::EndOfInput => say(b"the end was expected: an input has at most 65536 bytes"),
     }
@@ -67,80 +69,33 @@ fn place_of(text: &[u8], number: usize) -> usize {
         return text.len();
     }
     let end = places::line_length(text);
-    nth_start(&text[..end], number)
-}
-
-fn say_order(order: usize) {
-    say(b"the order is ");
-    say_number(order as u64);
-    say(b", and must be 1 to 32");
-}
-
-// The accumulator's bits, and its greatest number.
-fn accumulator(width: u64) -> u64 {
-    match width {
-        8 => 16,
-        16 => 32,
-        _ => 64,
-    }
-}
-
-fn limit(width: u64) -> u64 {
-    match width {
-        8 => 32767,
-        16 => 2147483647,
-        _ => 9223372036854775807,
-    }
-}
-
-fn say_shift(shift: u32, width: u64) {
-    say(b"the shift is ");
-    say_number(shift as u64);
-    say(b", and must be below ");
-    say_number(accumulator(width));
-}
-
-fn say_sum(width: u64) {
-    say(b"the absolute bias plus ");
-    say_number(crate::reading::greatest(width));
-    say(b" times the sum of the absolute weights must be at most ");
-    say_number(limit(width));
-}
-
-fn say_length(order: usize) {
-    say(b"the weights must number ");
-    say_number(order as u64);
-    say(b", which is the order");
-}
-
-fn say_few(samples: usize, order: usize) {
-    say(b"the trace has ");
-    say_number(samples as u64);
-    say(b" samples, and must have at least ");
-    say_number(order as u64);
-    say(b", which is the order");
+    nth_start(&text[0..end], number)
 }
 
 // The coder's own answer.
-pub(crate) fn say_refusal(
-    text: &[u8],
-    configuration: Configuration,
-    samples: usize,
-    answer: Answer,
-) {
+pub(crate) fn say_refusal(text: &[u8], c: Configuration, samples: usize, answer: Answer) {
     let number = kinds::number(answer);
-    let order = configuration.order.0;
-    let width = configuration.width;
-    say(b"refused ");
-    say_number(number as u64);
-    say(b": ");
+    let order = c.order.0 as u64;
+    let width = c.width;
+    say_with(b"refused #: ", number as u64, 0);
     say_place(text, place_of(text, number as usize));
     match number {
-        1 => say_order(order),
-        2 => say_shift(configuration.shift.0, width),
-        3 => say_sum(width),
-        4 => say_length(order),
-        _ => say_few(samples, order),
+        1 => say_with(b"the order is #, and must be 1 to 32\n", order, 0),
+        2 => say_with(
+            b"the shift is #, and must be below #\n",
+            c.shift.0 as u64,
+            accumulator_bits(width) as u64,
+        ),
+        3 => say_with(
+            b"the absolute bias plus # times the sum of the absolute weights must be at most #\n",
+            greatest_sample(width),
+            accumulator_limit(width),
+        ),
+        4 => say_with(b"the weights must number #, which is the order\n", order, 0),
+        _ => say_with(
+            b"the trace has # samples, and must have at least #, which is the order\n",
+            samples as u64,
+            order,
+        ),
     }
-    say(b"\n");
 }

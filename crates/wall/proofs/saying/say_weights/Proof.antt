@@ -1,43 +1,29 @@
 -- Bounds alone: what the program prints is compared. Assumes nothing.
 use Prim.Native.Nat.{_-_, _≤_}
 use borrow.Author.Needs.{needs}
-use lib.IntN.{pos}
-use lib.ListN.{length, getD}
-use mir.Facts.{toZ-ofZ, sfits-widen}
-use mir.Syntax.{w32}
-use mir.Val.{SFits}
 use Rattle.wall.proofs.saying.say_weights.Statement.{statement}
 use Rattle.wall.proofs.saying.say_weights.Tie as tie
 
 abbrev Inv-loop : tie.InvT-loop
-Inv-loop weights i₀ t3 i = i ≤ length weights
+Inv-loop bits n i₀ i = n ≤ 4096
 
 abbrev μ-loop : tie.MeasureT-loop
-μ-loop weights i₀ t3 i = length weights - i
+μ-loop bits n i₀ i = n - i
+
+least-requires : tie.Need-least-requires Inv-loop μ-loop
+least-requires c κs = search needs
 
 loop-holds : tie.Need-loop-holds Inv-loop μ-loop
 loop-holds c = search needs
 
-slice-aggregate-say : tie.Need-slice-aggregate-say Inv-loop μ-loop
-slice-aggregate-say c = search needs
+mul-say-weight : tie.Need-mul-say-weight Inv-loop μ-loop
+mul-say-weight c = search needs
 
-say-requires : tie.Need-say-requires Inv-loop μ-loop
-say-requires c κs = search needs
+array-read-say-weight : tie.Need-array-read-say-weight Inv-loop μ-loop
+array-read-say-weight c = search needs
 
-mul-say-signed : tie.Need-mul-say-signed Inv-loop μ-loop
-mul-say-signed c = search needs
-
-shared-slice-copy-out-say-signed : tie.Need-shared-slice-copy-out-say-signed Inv-loop μ-loop
-shared-slice-copy-out-say-signed c = search needs
-
-cast-say-signed : tie.Need-cast-say-signed Inv-loop μ-loop
-cast-say-signed c =
-    let l = c .before .before .before .before in
-    let fits : SFits w32 (getD (l .before .args .weights .now) (l .loop .i) (pos 0)) = record { sfits = c .say-signed-arg .given } in
-    rw (toZ-ofZ fits) (sfits-widen tt fits)
-
-say-signed-requires : tie.Need-say-signed-requires Inv-loop μ-loop
-say-signed-requires c κs = search needs
+say-weight-requires : tie.Need-say-weight-requires Inv-loop μ-loop
+say-weight-requires c κs = search needs
 
 add-i : tie.Need-add-i Inv-loop μ-loop
 add-i c = search needs
@@ -57,13 +43,11 @@ say-weights-spec =
     (tie.spec
     Inv-loop
     μ-loop
+    least-requires
     loop-holds
-    slice-aggregate-say
-    say-requires
-    mul-say-signed
-    shared-slice-copy-out-say-signed
-    cast-say-signed
-    say-signed-requires
+    mul-say-weight
+    array-read-say-weight
+    say-weight-requires
     add-i
     loop-less
     loop-again
