@@ -18,9 +18,6 @@ ghost use Rattle.rule.specs.Refusals.{config, predictor, orderSixRefusal};
 ghost use Rattle.decoding.specs.Steps.{Startable, Decodes};
 ghost use Rattle.order_six.specs.Running.{Runs, Grows, shifted};
 
-// The accumulator.
-type Conv = i32;
-
 // A sum in a register's width, as `prediction` has it, and the weights and the bias to go with it.
 type Wide = i32;
 
@@ -30,17 +27,31 @@ struct Running {
     sums: [Wide; 6],
 }
 
-fn six_of(weights: &[Conv]) -> [Wide; 6]
+fn weight_to_wide(weight: i32) -> Wide
+    requires { ⌜ SFits wide weight ⌝ }
+    ensures { λ r. ⌜ r ≡ weight ⌝ }
+{
+    weight as Wide
+}
+
+fn bias_to_wide(bias: i64) -> Wide
+    requires { ⌜ SFits wide bias ⌝ }
+    ensures { λ r. ⌜ r ≡ bias ⌝ }
+{
+    bias as Wide
+}
+
+fn six_of(weights: &[i32]) -> [Wide; 6]
     requires { ⌜ (length (now weights) ≡ 6) × ((i : ℕ) → SFits wide (getD (now weights) i (pos 0))) ⌝ }
     ensures { λ r. ⌜ r ≡ now (weights .entry) ⌝ }
 {
     [
-        prediction::w16::widened(weights[0]),
-        prediction::w16::widened(weights[1]),
-        prediction::w16::widened(weights[2]),
-        prediction::w16::widened(weights[3]),
-        prediction::w16::widened(weights[4]),
-        prediction::w16::widened(weights[5]),
+        weight_to_wide(weights[0]),
+        weight_to_wide(weights[1]),
+        weight_to_wide(weights[2]),
+        weight_to_wide(weights[3]),
+        weight_to_wide(weights[4]),
+        weight_to_wide(weights[5]),
     ]
 }
 
@@ -121,19 +132,17 @@ fn begun(weights: [Wide; 6], bias: Wide, state: &[u16]) -> Running
 // Each latent gives a sample, and takes the place of the oldest; MID goes off first, so that no sample waits for it. The sums are made
 // anew from the state: only samples outlive a call.
 fn decode_latents(
-    weights: &[Conv],
-    bias: Conv,
+    weights: [Wide; 6],
+    bias: Wide,
     shift: Shift,
     state: &mut [u16],
     latents: &mut [u16],
 )
-    requires { ⌜ Startable 16 (shift .0) bias (now weights) (now state) × (length (now weights) ≡ 6) ⌝ }
-    ensures { λ _. ⌜ Decodes 16 (shift .0) bias (now (weights .entry)) (now (state .entry)) (now (latents .entry)) (now (latents .exit)) (now (state .exit)) ⌝ }
+    requires { ⌜ Startable 16 (shift .0) bias weights (now state) × (length weights ≡ 6) ⌝ }
+    ensures { λ _. ⌜ Decodes 16 (shift .0) bias weights (now (state .entry)) (now (latents .entry)) (now (latents .exit)) (now (state .exit)) ⌝ }
 {
     centre::w16::toggle_center_in_place(latents);
-    let six = six_of(weights);
-    let first = prediction::w16::widened(bias);
-    let mut running = begun(six, first, state);
+    let mut running = begun(weights, bias, state);
     let mut i = 0;
     while i < latents.len() {
         let sums = running.sums;
@@ -141,7 +150,7 @@ fn decode_latents(
         let prediction = prediction::w16::settle(sums[0], shift);
         let latent = centre::w16::put_on(latents[i], prediction.value);
         latents[i] = samples[0];
-        running = next(running, six, first, latent);
+        running = next(running, weights, bias, latent);
         i += 1;
     }
     let samples = running.samples;
@@ -167,9 +176,6 @@ pub fn decode_order_6_into(
     if !kinds::is_done(answer) {
         return answer;
     }
-    let k = order.0;
-    let config = prediction::w16::conv(bias, weights);
-    let wide = config.weights;
-    decode_latents(&wide[..k], config.bias, shift, state, piece);
+    decode_latents(six_of(weights), bias_to_wide(bias), shift, state, piece);
     answer
 }

@@ -18,9 +18,6 @@ ghost use Rattle.rule.specs.Refusals.{config, predictor, orderSixRefusal};
 ghost use Rattle.decoding.specs.Steps.{Startable, Decodes};
 ghost use Rattle.order_six.specs.Running.{Runs, Grows, shifted};
 
-// The accumulator.
-type Conv = i16;
-
 // A sum in a register's width, as `prediction` has it, and the weights and the bias to go with it.
 type Wide = i32;
 
@@ -30,17 +27,31 @@ struct Running {
     sums: [Wide; 6],
 }
 
-fn six_of(weights: &[Conv]) -> [Wide; 6]
+fn weight_to_wide(weight: i32) -> Wide
+    requires { ⌜ SFits wide weight ⌝ }
+    ensures { λ r. ⌜ r ≡ weight ⌝ }
+{
+    weight as Wide
+}
+
+fn bias_to_wide(bias: i64) -> Wide
+    requires { ⌜ SFits wide bias ⌝ }
+    ensures { λ r. ⌜ r ≡ bias ⌝ }
+{
+    bias as Wide
+}
+
+fn six_of(weights: &[i32]) -> [Wide; 6]
     requires { ⌜ (length (now weights) ≡ 6) × ((i : ℕ) → SFits wide (getD (now weights) i (pos 0))) ⌝ }
     ensures { λ r. ⌜ r ≡ now (weights .entry) ⌝ }
 {
     [
-        crate::prediction_8::widened(weights[0]),
-        crate::prediction_8::widened(weights[1]),
-        crate::prediction_8::widened(weights[2]),
-        crate::prediction_8::widened(weights[3]),
-        crate::prediction_8::widened(weights[4]),
-        crate::prediction_8::widened(weights[5]),
+        weight_to_wide(weights[0]),
+        weight_to_wide(weights[1]),
+        weight_to_wide(weights[2]),
+        weight_to_wide(weights[3]),
+        weight_to_wide(weights[4]),
+        weight_to_wide(weights[5]),
     ]
 }
 
@@ -120,14 +131,18 @@ fn begun(weights: [Wide; 6], bias: Wide, state: &[u8]) -> Running
 
 // Each latent gives a sample, and takes the place of the oldest; MID goes off first, so that no sample waits for it. The sums are made
 // anew from the state: only samples outlive a call.
-fn decode_latents(weights: &[Conv], bias: Conv, shift: Shift, state: &mut [u8], latents: &mut [u8])
-    requires { ⌜ Startable 8 (shift .0) bias (now weights) (now state) × (length (now weights) ≡ 6) ⌝ }
-    ensures { λ _. ⌜ Decodes 8 (shift .0) bias (now (weights .entry)) (now (state .entry)) (now (latents .entry)) (now (latents .exit)) (now (state .exit)) ⌝ }
+fn decode_latents(
+    weights: [Wide; 6],
+    bias: Wide,
+    shift: Shift,
+    state: &mut [u8],
+    latents: &mut [u8],
+)
+    requires { ⌜ Startable 8 (shift .0) bias weights (now state) × (length weights ≡ 6) ⌝ }
+    ensures { λ _. ⌜ Decodes 8 (shift .0) bias weights (now (state .entry)) (now (latents .entry)) (now (latents .exit)) (now (state .exit)) ⌝ }
 {
     crate::centre_8::toggle_center_in_place(latents);
-    let six = six_of(weights);
-    let first = crate::prediction_8::widened(bias);
-    let mut running = begun(six, first, state);
+    let mut running = begun(weights, bias, state);
     let mut i = 0;
     while i < latents.len() {
         let sums = running.sums;
@@ -135,7 +150,7 @@ fn decode_latents(weights: &[Conv], bias: Conv, shift: Shift, state: &mut [u8], 
         let prediction = crate::prediction_8::settle(sums[0], shift);
         let latent = crate::centre_8::put_on(latents[i], prediction.value);
         latents[i] = samples[0];
-        running = next(running, six, first, latent);
+        running = next(running, weights, bias, latent);
         i += 1;
     }
     let samples = running.samples;
@@ -161,9 +176,6 @@ pub fn decode_order_6_into(
     if !kinds::is_done(answer) {
         return answer;
     }
-    let k = order.0;
-    let config = crate::prediction_8::conv(bias, weights);
-    let wide = config.weights;
-    decode_latents(&wide[..k], config.bias, shift, state, piece);
+    decode_latents(six_of(weights), bias_to_wide(bias), shift, state, piece);
     answer
 }

@@ -4,15 +4,12 @@ use mathlib.Core.List.{map}
 use Prim.Native.Nat.{ℕ, _+_, _-_, _%_, _^_}
 use native.Mathlib.Omega.{arith}
 use borrow.Author.Needs.{needs}
-use lib.Dec.{lit<, lit≤}
-use lib.IntN.{ℤ}
 use lib.ListN.{length, getD, length-set}
-use mir.Syntax.{w64 as acc, w64 as wide}
-use mir.Val.{SFits, toZ, ofZ}
+use mir.Syntax.{w64 as wide}
+use mir.Val.{toZ, ofZ}
 use mir.Facts.{toZ-ofZ}
 use Rattle.rule.specs.Prediction.{prediction}
 use Rattle.rule.specs.Coding.{toggled}
-use Rattle.rule.proofs.Sums as sums
 use Rattle.centre.proofs.Toggling.{all-twice}
 use Rattle.slices.proofs.Copying.{replaced}
 use Rattle.decoding.proofs.Batches as batches
@@ -23,45 +20,29 @@ use Rattle.width_32.proofs.order_six_32.decode_latents.Statement.{state
 use Rattle.width_32.proofs.order_six_32.decode_latents.Tie as tie
 
 abbrev Inv-loop : tie.InvT-loop
-Inv-loop weights bias shift state latents₀ six first running₀ i₀ latents running i =
-    Runs 32 (toZ acc bias) weights (running .samples) (running .sums)
-    × batches.Going 32 (length weights) (prediction 32 (shift .0) (toZ acc bias) weights) state (map (toggled 32) latents₀) (running .samples) (law.mixed 32 i latents) i
+Inv-loop weights bias shift state latents₀ running₀ i₀ latents running i =
+    Runs 32 (toZ wide bias) weights (running .samples) (running .sums)
+    × batches.Going 32 (length weights) (prediction 32 (shift .0) (toZ wide bias) weights) state (map (toggled 32) latents₀) (running .samples) (law.mixed 32 i latents) i
     × (length latents ≡ length latents₀)
 
 abbrev μ-loop : tie.MeasureT-loop
-μ-loop weights bias shift state latents₀ six first running₀ i₀ latents running i = length latents - i
+μ-loop weights bias shift state latents₀ running₀ i₀ latents running i = length latents - i
 
 toggle-center-in-place-requires : tie.Need-toggle-center-in-place-requires Inv-loop μ-loop
 toggle-center-in-place-requires c κs = search needs
 
-six-of-requires : tie.Need-six-of-requires Inv-loop μ-loop
-six-of-requires c κs =
-    let s = c .before .before .before .before .before .before in
-    (s .pre .1, λ i. sums.fits {W = 32} (lit≤ tt) (sums.weight-inside 32 (s .args .bias) (s .args .weights .now) (s .pre .0 .ready .admits) (lit< tt) i))
-
-bias-fits : (c : tie.Start Inv-loop μ-loop) → SFits wide (toZ acc (ofZ acc (c .args .bias)))
-bias-fits c = rw (toZ-ofZ (c .fits .bias)) (sums.fits {W = 32} (lit≤ tt) (sums.bias-inside 32 (c .args .bias) (c .args .weights .now) (c .pre .0 .ready .admits)))
-
-widened-requires : tie.Need-widened-requires Inv-loop μ-loop
-widened-requires c κs = bias-fits (c .before .before .before .before .before .before .before)
-
--- the widened bias is the bias
-first-is : (c : tie.After-widened Inv-loop μ-loop) → toZ wide (ofZ wide (c .widened .result)) ≡ toZ acc (ofZ acc (c .before .before .before .before .before .before .before .before .args .bias))
-first-is c = ap (λ (z : ℤ). toZ wide (ofZ wide z)) (c .widened .ensures) ∙ toZ-ofZ (bias-fits (c .before .before .before .before .before .before .before .before))
-
 begun-requires : tie.Need-begun-requires Inv-loop μ-loop
 begun-requires c κs =
-    let s = c .before .before .before .before .before .before .before .before .before in
-    let e = c .before .before .six-of .ensures in
-    (rw e (s .pre .1), rw (first-is (c .before), toZ-ofZ (s .fits .bias), e) (s .pre .0 .ready .admits), s .pre .0 .full ∙ s .pre .1)
+    let s = c .before .before .before .before .before .before .before in
+    (s .pre .1, rw (toZ-ofZ (s .fits .bias)) (s .pre .0 .ready .admits), s .pre .0 .full ∙ s .pre .1)
 
 loop-holds : tie.Need-loop-holds Inv-loop μ-loop
 loop-holds c =
-    let s = c .before .before .before .before .before .before .before .before .before .before in
+    let s = c .before .before .before .before .before .before .before .before in
     let a = s .args in (
-      rw (first-is (c .before .before), c .before .before .before .six-of .ensures) at (c .begun .ensures .1),
+      c .begun .ensures .1,
       rw (c .begun .ensures .0)
-          (batches.begun 32 (length (a .weights .now)) (prediction 32 (a .shift .0) (toZ acc (ofZ acc (a .bias))) (a .weights .now)) (a .state .now) (map (toggled 32) (c .before .before .before .before .before .before .toggle-center-in-place .last .0)) (s .pre .0 .full)),
+          (batches.begun 32 (length (a .weights)) (prediction 32 (a .shift .0) (toZ wide (ofZ wide (a .bias))) (a .weights)) (a .state .now) (map (toggled 32) (c .before .before .before .before .toggle-center-in-place .last .0)) (s .pre .0 .full)),
       refl,
     )
 
@@ -69,7 +50,7 @@ array-copy-out-settle : tie.Need-array-copy-out-settle Inv-loop μ-loop
 array-copy-out-settle c = search needs
 
 settle-requires : tie.Need-settle-requires Inv-loop μ-loop
-settle-requires c κs = c .before .before .before .before .before .before .before .before .before .before .before .before .before .before .before .pre .0 .ready .shift
+settle-requires c κs = c .before .before .before .before .before .before .before .before .before .before .before .before .before .pre .0 .ready .shift
 
 -- the place in bytes
 mul-put-on : tie.Need-mul-put-on Inv-loop μ-loop
@@ -92,24 +73,22 @@ slice-write-latents : tie.Need-slice-write-latents Inv-loop μ-loop
 slice-write-latents c = search needs
 
 next-requires : tie.Need-next-requires Inv-loop μ-loop
-next-requires c κs =
-    rw (first-is (c .before .before .before .before .before .before .before .before .before .before), c .before .before .before .before .before .before .before .before .before .before .before .six-of .ensures)
-    (c .before .before .before .before .before .before .before .loop .inv .0)
+next-requires c κs = c .before .before .before .before .before .before .before .loop .inv .0
 
 add-i : tie.Need-add-i Inv-loop μ-loop
-add-i c = omega (arith, c .before .before .before .before .before .before .before .before .loop .inv .2, c .before .before .before .before .before .before .before .before .before .before .before .before .before .before .before .toggle-center-in-place .kept, c .before .before .before .before .before .before .before .before .before .before .before .before .before .before .before .before .before .before .before .good .1 .1 .1 .1 .0)
+add-i c = omega (arith, c .before .before .before .before .before .before .before .before .loop .inv .2, c .before .before .before .before .before .before .before .before .before .before .before .before .before .toggle-center-in-place .kept, c .before .before .before .before .before .before .before .before .before .before .before .before .before .before .before .before .before .good .1 .1 .1 .1 .0)
 
 loop-less : tie.Need-loop-less Inv-loop μ-loop
 loop-less c = simp length-set (omega arith)
 
 loop-again : tie.Need-loop-again Inv-loop μ-loop
 loop-again c =
-    let s = c .before .before .before .before .before .before .before .before .before .before .before .before .before .before .before .before .before .before .before in
+    let s = c .before .before .before .before .before .before .before .before .before .before .before .before .before .before .before .before .before in
     let l = c .before .before .before .before .before .before .before .before .loop in
     let e = c .before .before .before .settle .ensures in (
-      rw (first-is (c .before .before .before .before .before .before .before .before .before .before .before), c .before .before .before .before .before .before .before .before .before .before .before .before .six-of .ensures) at (c .next .ensures .1),
+      c .next .ensures .1,
       rw (c .next .ensures .0)
-          (law.turn (s .args .shift .0) (l .inv .0) (s .args .state .now) (map (toggled 32) (c .before .before .before .before .before .before .before .before .before .before .before .before .before .before .before .toggle-center-in-place .last .0)) (l .latents) (l .i) (c .before .put-on .result) (s .pre .0 .full) (l .inv .1) (omega arith)
+          (law.turn (s .args .shift .0) (l .inv .0) (s .args .state .now) (map (toggled 32) (c .before .before .before .before .before .before .before .before .before .before .before .before .before .toggle-center-in-place .last .0)) (l .latents) (l .i) (c .before .put-on .result) (s .pre .0 .full) (l .inv .1) (omega arith)
           (c .before .put-on .ensures
           ∙ ap (λ (y : ℕ). (getD (l .latents) (l .i) 0 + y) % 2 ^ 32) (rw (running.back wide (c .before .before .before .before .settle-arg .given)) at e))),
       length-set (l .latents) (l .i) _ ∙ l .inv .2,
@@ -119,13 +98,13 @@ slice-aggregate-copy : tie.Need-slice-aggregate-copy Inv-loop μ-loop
 slice-aggregate-copy c = sym (c .before .before .before .loop .inv .0 .samples)
 
 copy-requires : tie.Need-copy-requires Inv-loop μ-loop
-copy-requires c κs = omega (arith, c .before .before .before .before .loop .inv .0 .samples, c .before .before .before .before .before .before .before .before .before .before .before .before .before .before .before .pre .0 .full, c .before .before .before .before .before .before .before .before .before .before .before .before .before .before .before .pre .1)
+copy-requires c κs = let s = c .before .before .before .before .before .before .before .before .before .before .before .before .before in omega (arith, c .before .before .before .before .loop .inv .0 .samples, s .pre .0 .full, s .pre .1)
 
 same-length : tie.Need-same-length Inv-loop μ-loop
 same-length c = c .before .before .copy .kept .1 .0
 
 same-length-2 : tie.Need-same-length-2 Inv-loop μ-loop
-same-length-2 c = omega (arith, c .before .before .before .before .before .before .before .loop .inv .2, c .before .before .before .before .before .before .before .before .before .before .before .before .before .before .toggle-center-in-place .kept)
+same-length-2 c = omega (arith, c .before .before .before .before .before .before .before .loop .inv .2, c .before .before .before .before .before .before .before .before .before .before .before .before .toggle-center-in-place .kept)
 
 -- what was toggled is toggled back
 coded-is : (c : tie.After-toggle-center-in-place Inv-loop μ-loop) → map (toggled 32) (c .toggle-center-in-place .last .0) ≡ c .before .before .before .before .args .latents .now
@@ -135,18 +114,18 @@ coded-is c =
 
 returns : tie.Need-returns Inv-loop μ-loop
 returns c =
-    let s = c .before .before .before .before .before .before .before .before .before .before .before .before .before .before .before .before .before .before in
+    let s = c .before .before .before .before .before .before .before .before .before .before .before .before .before .before .before .before in
     let a = s .args in
     let l = c .before .before .before .before .before .before .before .loop in
     let past = c .before .before .before .before .before .before .loop-test .left in
     let whole = law.mixed-all 32 (l .i) (l .latents) past in
     let e =
-    batches.ended 32 (length (a .weights .now)) (prediction 32 (a .shift .0) (toZ acc (ofZ acc (a .bias))) (a .weights .now)) (a .state .now) _ (s .pre .0 .full) (l .inv .1) (omega (arith, law.mixed-long 32 (l .i) (l .latents)))
+    batches.ended 32 (length (a .weights)) (prediction 32 (a .shift .0) (toZ wide (ofZ wide (a .bias))) (a .weights)) (a .state .now) _ (s .pre .0 .full) (l .inv .1) (omega (arith, law.mixed-long 32 (l .i) (l .latents)))
     in
     let n = c .before .before .copy .ensures ∙ replaced (l .running .samples) (a .state .now) (omega (arith, l .inv .0 .samples, s .pre .0 .full, s .pre .1)) in
     record {
-      outputs-are = rw (coded-is (c .before .before .before .before .before .before .before .before .before .before .before .before .before .before), toZ-ofZ (s .fits .bias)) at (sym whole ∙ e .0);
-      next-is = rw (coded-is (c .before .before .before .before .before .before .before .before .before .before .before .before .before .before), toZ-ofZ (s .fits .bias)) at (n ∙ e .1);
+      outputs-are = rw (coded-is (c .before .before .before .before .before .before .before .before .before .before .before .before), toZ-ofZ (s .fits .bias)) at (sym whole ∙ e .0);
+      next-is = rw (coded-is (c .before .before .before .before .before .before .before .before .before .before .before .before), toZ-ofZ (s .fits .bias)) at (n ∙ e .1);
     }
 
 pub decode-latents-spec : {M : Type 1} → statement M
@@ -156,8 +135,6 @@ decode-latents-spec =
     Inv-loop
     μ-loop
     toggle-center-in-place-requires
-    six-of-requires
-    widened-requires
     begun-requires
     loop-holds
     array-copy-out-settle
