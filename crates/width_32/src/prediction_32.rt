@@ -64,7 +64,7 @@ pub(crate) fn conv(bias: i64, weights: &[i32]) -> Config
 }
 
 // A number of the accumulator's in a register's width.
-pub(crate) fn widened(z: Conv) -> Wide
+fn widened(z: Conv) -> Wide
     requires { ⌜ SFits wide z ⌝ }
     ensures { λ r. ⌜ r ≡ z ⌝ }
 {
