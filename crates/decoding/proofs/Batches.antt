@@ -1,67 +1,27 @@
--- Batches: what a batch leaves in its array, and the loop that goes from batch to batch with the state between them.
+-- Batches: how a batch takes the state over and hands it back, and the loop that goes from batch to batch with the state between them.
 -- Over the width W, the order k and any predictor p. Assumes nothing.
 use mathlib.Core.Path.{_≡_, refl, sym, ap, _∙_}
-use mathlib.Core.List.{List, _++_, map, append-assoc, append-nil}
+use mathlib.Core.List.{List, _++_, append-assoc, append-nil}
 use Prim.Native.Nat.{ℕ, _+_, _-_, _≤_}
 use native.Mathlib.Omega.{arith}
-use lib.ListN.{length, take, drop, length-append, length-take, length-drop, length-map, drop-of-length-le, take-append-drop}
-use lib.Seq.{take-append-add, take-append-seam, take-at, drop-at, take-all, take-append-le, drop-append-le, length-take-le, take-add, drop-drop}
+use lib.ListN.{length, take, drop, length-append, length-drop, drop-of-length-le, take-append-drop}
+use lib.Seq.{take-at, drop-at, take-all, length-take-le, take-add, drop-drop}
 use borrow.Rule.Slice.PartMut.{putMid}
 use Rattle.slices.proofs.Copying.{replaced}
-use Rattle.rule.specs.Coding.{toggled, extended, decodedPiece, newState}
+use Rattle.rule.specs.Coding.{decodedPiece, newState}
 use Rattle.extending.proofs.Extending as extending
 
--- ---- a batch: the array r has the state copied to its front, as r1, and then the residuals, as x, behind that
-pub laid : (state latents r r1 x : List ℕ)
-    → r1 ≡ state ++ drop (length state) r
-    → x ≡ latents ++ drop (length latents) (take (length state + length latents - length state) (drop (length state) r1))
-    → take (length state + length latents) (putMid (length state) (length state + length latents - length state) r1 x) ≡ state ++ latents
-laid state latents r r1 x front behind =
-    rw (
-      behind,
-      replaced latents (take (length state + length latents - length state) (drop (length state) r1)) (simp length-take (omega arith)),
-      front,
-      take-append-seam state (drop (length state) r),
-    )
-    (take-append-add state (latents ++ _) (length latents) ∙ rw take-append-seam)
+-- ---- a batch: the state is copied to the front of the array r, as r1, and the last samples are copied back from it
+pub known : {k : ℕ} (state r r1 : List ℕ) → length state ≡ k → r1 ≡ state ++ drop (length state) r → take k r1 ≡ state
+known {k} state r r1 full e = rw e (take-at state (drop (length state) r) k full)
 
--- ---- the array decoded, as y, and what is behind it: the latents had MID off, and coded they are with it
-module _ (W k : ℕ) (p : List ℕ → ℕ) (state latents coded y rest : List ℕ) (full : length state ≡ k) (coded-is : map (toggled W) latents ≡ coded)
-    (decoded : y ≡ extended W k p (take k (state ++ latents)) (map (toggled W) (drop k (state ++ latents))))
-  where
-    decoded-whole : y ≡ extended W k p state coded
-    decoded-whole = decoded ∙ rw (take-at state latents k full, drop-at state latents k full, coded-is)
-
-    as-long : length coded ≡ length latents
-    as-long = ap length (sym coded-is) ∙ length-map latents (toggled W)
-
-    long : length y ≡ length state + length latents
-    long = rw decoded-whole (extending.length-extended W k p state coded ∙ ap (λ (n : ℕ). length state + n) as-long)
-
-    pub outputs-are : (out : List ℕ) → out ≡ take (length latents) (y ++ rest) ++ drop (length (take (length latents) (y ++ rest))) latents
-        → out ≡ decodedPiece W k p state coded
-    unfolding decodedPiece
-    outputs-are out e =
-        let h : length latents ≤ length y = omega (arith, long) in
-        e
-        ∙ rw (take-append-le (length latents) y rest h, replaced (take (length latents) y) latents (simp length-take (omega arith)), as-long)
-        (ap (take (length latents)) decoded-whole)
-
-    pub next-is : (next : List ℕ)
-        → next ≡ take (length state + length latents - length latents) (drop (length latents) (y ++ rest)) ++ drop (length (take (length state + length latents - length latents) (drop (length latents) (y ++ rest)))) state
-        → next ≡ newState W k p state coded
-    unfolding newState
-    next-is next e =
-        let h : length latents ≤ length y = omega (arith, long) in
-        let l : length (drop (length latents) y) ≡ length state + length latents - length latents = rw (length-drop, long) in
-        e
-        ∙ rw (
-          drop-append-le (length latents) y rest h,
-          take-at (drop (length latents) y) rest (length state + length latents - length latents) l,
-          replaced (drop (length latents) y) state (omega (arith, l)),
-          as-long,
-        )
-        (ap (drop (length latents)) decoded-whole)
+pub handed-back : {k : ℕ} (count : ℕ) (state r next : List ℕ) → length state ≡ k → k + count ≤ length r
+    → next ≡ take (count + length state - count) (drop count r) ++ drop (length (take (count + length state - count) (drop count r))) state
+    → next ≡ take k (drop count r)
+handed-back {k} count state r next full room e =
+    let whole : count + length state - count ≡ k = omega (arith, full) in
+    let long : length (take k (drop count r)) ≡ k = length-take-le k (drop count r) (rw length-drop (omega arith)) in
+    e ∙ rw (whole, replaced (take k (drop count r)) state (omega (arith, long, full)))
 
 -- ---- the loop over batches, from state₀ and residuals₀: the outputs of the residuals before `start`, and then the residuals
 pub record Going (W k : ℕ) (p : List ℕ → ℕ) (state₀ latents₀ state latents : List ℕ) (start : ℕ) : Type 0 where

@@ -1,3 +1,4 @@
 pub mod Starting
-pub mod Residuals
 pub mod Batches
+pub mod Turning
+pub mod Residuals

@@ -1,41 +1,61 @@
--- The loop that turns residuals into samples where they lie: at place i the places before it are samples, and the list of these
--- extended by the places from i on, which have MID off already, never changes. Over the width W, the order k and any predictor p. Assumes nothing.
-use mathlib.Core.Path.{_≡_, sym, ap, _∙_}
-use mathlib.Core.List.{List, map}
-use Prim.Native.Nat.{ℕ, suc, _+_, _-_, _%_, _^_, _≤_, _<_}
+-- The loop that turns residuals into samples: at place i, the k samples from i on are those that the next one is predicted from.
+-- Over the width W, the order k and any predictor p. Assumes nothing.
+use mathlib.Core.Path.{_≡_, refl, sym, ap, _∙_}
+use mathlib.Core.List.{List, [], _∷_, _++_, map}
+use Prim.Native.Nat.{ℕ, zero, suc, _+_, _-_, _%_, _^_, _≤_, _<_}
+use native.Mathlib.Nat.{not-suc-le-zero}
 use native.Mathlib.Numerals.{add-one}
 use native.Mathlib.Omega.{arith}
-use lib.ListN.{length, getD, take, drop, set, length-set, drop-of-length-le}
-use lib.Seq.{drop-cons, take-suc-set, drop-set-lt, take-all}
-use Rattle.rule.specs.Coding.{window, toggled, extended}
-use Rattle.centre.proofs.Toggling.{restored-toggled}
-use Rattle.extending.proofs.Extending as extending
+use lib.ListN.{length, getD, take, drop, set, length-set, length-map, length-drop}
+use lib.Seq.{getD-take, getD-drop, drop-cons, drop-set-add, take-suc-set}
+use Rattle.rule.specs.Coding.{toggled, decodedPiece, newState}
+use Rattle.decoding.proofs.Batches as batches
+use Rattle.decoding.proofs.Turning as turning
 
--- the loop's invariant: o are the residuals as they came, l as they are
-pub record Holds (W k : ℕ) (p : List ℕ → ℕ) (o l : List ℕ) (i : ℕ) : Type 0 where
-  pub late : k ≤ i
-  pub same : length l ≡ length o
-  pub decodes : extended W k p (take i l) (map (toggled W) (drop i l)) ≡ extended W k p (take k o) (map (toggled W) (drop k o))
+-- the k samples from i on, as a sample is written behind them
+slid : (k : ℕ) (l : List ℕ) (i y : ℕ) → 1 ≤ k → i + k < length l → take k (drop (i + 1) (set l (i + k) y)) ≡ drop 1 (take k (drop i l)) ++ y ∷ []
+slid zero l i y some within = absurd (not-suc-le-zero some)
+slid (suc m) l i y some within =
+    let e : i + suc m ≡ i + 1 + m = omega arith in
+    let h : m < length (drop (i + 1) l) = simp length-drop (omega arith) in
+    rw (e, drop-set-add (i + 1) l m y, take-suc-set (drop (i + 1) l) m y h, drop-cons l i 0 (omega arith), add-one)
 
-module _ (W k : ℕ) (p : List ℕ → ℕ) (o l : List ℕ) where
-  -- the part that a prediction is made from is the window
-  pub part-window : (i : ℕ) → k ≤ i → take (i - (i - k)) (drop (i - k) l) ≡ window k i l
-  unfolding window
-  part-window i late = ap (λ (n : ℕ). take n (drop (i - k) l)) whole
-    where
-      whole : i - (i - k) ≡ k
-      whole = omega arith
+oldest : (k : ℕ) (l : List ℕ) (i : ℕ) → 1 ≤ k → getD (take k (drop i l)) 0 0 ≡ getD l i 0
+oldest k l i some =
+    let e : i + 0 ≡ i = omega arith in
+    getD-take k (drop i l) 0 0 some ∙ getD-drop i l 0 0 ∙ ap (λ (n : ℕ). getD l n 0) e
 
-  -- the sample v takes the place of its residual
-  pub turn : {i : ℕ} → Holds W k p o l i → i < length l → (v : ℕ) → v ≡ (getD l i 0 + p (window k i l)) % 2 ^ W → Holds W k p o (set l i v) (i + 1)
-  turn {i} h within v e =
-      record {
-        late = omega arith;
-        same = length-set l i v ∙ h .same;
-        decodes =
-            rw (add-one, take-suc-set l i v within, drop-set-lt (suc i) l i v (omega arith), e, ← restored-toggled W (getD l i 0) (p (window k i l)), ← extending.sample-window W k p l i (toggled W (getD l i 0)) (h .late) (omega arith))
-            (ap (λ (m : List ℕ). extended W k p (take i l) (map (toggled W) m)) (sym (drop-cons l i 0 within)) ∙ h .decodes);
-      }
+-- the loop's invariant, from the samples s₀ and the latents l₀
+pub record Holds (W k : ℕ) (p : List ℕ → ℕ) (s₀ l₀ s l : List ℕ) (i : ℕ) : Type 0 where
+  pub room : length s ≡ length s₀
+  pub same : length l ≡ length l₀
+  pub going : batches.Going W k p (take k s₀) (map (toggled W) l₀) (take k (drop i s)) (turning.mixed W i l) i
 
-  pub ended : {i : ℕ} → Holds W k p o l i → length l ≤ i → l ≡ extended W k p (take k o) (map (toggled W) (drop k o))
-  ended {i} h past = rw (take-all i l past, drop-of-length-le l past) at (h .decodes)
+module _ (W k : ℕ) (p : List ℕ → ℕ) (some : 1 ≤ k) (s₀ l₀ : List ℕ) (full₀ : length (take k s₀) ≡ k) where
+  pub begun : Holds W k p s₀ l₀ s₀ l₀ 0
+  begun = record { room = refl; same = refl; going = batches.begun W k p (take k s₀) (map (toggled W) l₀) full₀ }
+
+  module _ {s l : List ℕ} {i : ℕ} (h : Holds W k p s₀ l₀ s l i) where
+    -- the part that a prediction is made from
+    pub part-known : take (i + k - i) (drop i s) ≡ take k (drop i s)
+    part-known = ap (λ (n : ℕ). take n (drop i s)) whole
+      where
+        whole : i + k - i ≡ k
+        whole = omega arith
+
+    pub turn : i < length l → i + k < length s → (y : ℕ) → y ≡ (getD l i 0 + p (take k (drop i s))) % 2 ^ W
+        → Holds W k p s₀ l₀ (set s (i + k) y) (set l i (getD s i 0)) (i + 1)
+    turn within inside y e =
+        record {
+          room = length-set s (i + k) y ∙ h .room;
+          same = length-set l i (getD s i 0) ∙ h .same;
+          going =
+              rw (slid k s i y some inside, ← oldest k s i some)
+              (turning.turn W k p some (take k s₀) (map (toggled W) l₀) full₀ (take k (drop i s)) l i y (h .going) within e);
+        }
+
+    pub ended : length l ≤ i → (l ≡ decodedPiece W k p (take k s₀) (map (toggled W) l₀)) × (take k (drop (length l₀) s) ≡ newState W k p (take k s₀) (map (toggled W) l₀))
+    ended past =
+        let t = batches.ended W k p (take k s₀) (map (toggled W) l₀) full₀ (h .going) (omega (arith, turning.mixed-long W i l)) in
+        let e : i ≡ length l₀ = omega (arith, h .same, h .going .within, length-map l₀ (toggled W)) in
+        (sym (turning.mixed-all W i l past) ∙ t .0, rw (← e) (t .1))

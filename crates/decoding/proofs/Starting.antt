@@ -16,6 +16,7 @@ module _ (W : ℕ) (c : Config) (state : ℕ) (ok : Passed W c state) {bias : �
       rw (bias-is, weights-are)
       (record {
         full = full ∙ sym (ok .weights);
+        some = rw (ok .weights) (ok .some);
         few = rw (ok .weights) (ok .few);
         ready = ok .ready;
       })

@@ -7,9 +7,10 @@ use lib.ListN.{length}
 use Rattle.rule.specs.Prediction.{prediction, Ready}
 use Rattle.rule.specs.Coding.{decodedPiece, newState}
 
--- the state has a sample for each of the at most 32 weights, which are fit to predict with
+-- the state has a sample for each of the 1 to 32 weights, which are fit to predict with
 pub record Startable (W q : ℕ) (bias : ℤ) (ws : List ℤ) (state : List ℕ) : Type 0 where
   pub full : length state ≡ length ws
+  pub some : 1 ≤ length ws
   pub few : length ws ≤ 32
   pub ready : Ready W q bias ws
 

@@ -9,58 +9,59 @@ ghost use mathlib.Core.List.{map};
 ghost use Prim.Native.Nat.{_+_, _≤_};
 ghost use lib.ListN.{length, take, drop};
 ghost use Rattle.kinds.specs.Answers.{whenDone};
-ghost use Rattle.rule.specs.Prediction.{Ready, prediction};
-ghost use Rattle.rule.specs.Coding.{toggled, extended, decodedPiece, newState};
+ghost use Rattle.rule.specs.Coding.{toggled, decodedPiece, newState};
 ghost use Rattle.rule.specs.Refusals.{config, predictor, codingRefusal};
 ghost use Rattle.decoding.specs.Steps.{Startable, Decodes};
 
 // The accumulator.
 type Conv = i32;
 
-// Residuals to a batch. With up to 32 samples of state before them they stand in one array, which a short piece does not fill.
+// Latents to a batch. Their samples, behind up to 32 of state, stand in one array, which a short piece does not fill.
 const BATCH: usize = 128;
 
-// From place k on, residuals without MID become samples, each by the k samples before it.
-fn decode_residuals(weights: &[Conv], bias: Conv, shift: Shift, residuals: &mut [u16])
-    requires { ⌜ Ready 16 (shift .0) bias (now weights) ⌝ }
-    ensures { λ _. ⌜ now (residuals .exit) ≡ extended 16 (length (now (weights .entry))) (prediction 16 (shift .0) bias (now (weights .entry))) (take (length (now (weights .entry))) (now (residuals .entry))) (map (toggled 16) (drop (length (now (weights .entry))) (now (residuals .entry)))) ⌝ }
+// The first k samples are known. Each latent, which has MID off, gives the sample behind the k that it is predicted from, and the oldest
+// of these takes its place.
+fn decode_residuals(
+    weights: &[Conv],
+    bias: Conv,
+    shift: Shift,
+    samples: &mut [u16],
+    latents: &mut [u16],
+)
+    requires { ⌜ Startable 16 (shift .0) bias (now weights) (take (length (now weights)) (now samples)) × (length (now weights) + length (now latents) ≤ length (now samples)) ⌝ }
+    ensures { λ _. ⌜ Decodes 16 (shift .0) bias (now (weights .entry)) (take (length (now (weights .entry))) (now (samples .entry))) (map (toggled 16) (now (latents .entry))) (now (latents .exit)) (take (length (now (weights .entry))) (drop (length (now (latents .entry))) (now (samples .exit)))) ⌝ }
 {
     let order = weights.len();
-    let mut i = order;
-    while i < residuals.len() {
-        let prediction = prediction::w16::predict_one(
-            &residuals[i - order..i],
-            weights,
-            bias,
-            shift,
-        );
-        residuals[i] = centre::w16::put_on(residuals[i], prediction.value);
+    let mut i = 0;
+    while i < latents.len() {
+        let end = i + order;
+        let prediction = prediction::w16::predict_one(&samples[i..end], weights, bias, shift);
+        let sample = centre::w16::put_on(latents[i], prediction.value);
+        latents[i] = samples[i];
+        samples[end] = sample;
         i += 1;
     }
 }
 
-// Decodes latents that have room in `residuals` behind their state; what stands there first does not matter. MID goes off first, so
-// that no sample waits for it.
+// Decodes latents whose samples have room behind their state; what stands there first does not matter. MID goes off first, so that no
+// sample waits for it.
 fn decode_batch(
     weights: &[Conv],
     bias: Conv,
     shift: Shift,
-    residuals: &mut [u16],
+    samples: &mut [u16],
     state: &mut [u16],
     latents: &mut [u16],
 )
-    requires { ⌜ Startable 16 (shift .0) bias (now weights) (now state) × (length (now state) + length (now latents) ≤ length (now residuals)) ⌝ }
+    requires { ⌜ Startable 16 (shift .0) bias (now weights) (now state) × (length (now state) + length (now latents) ≤ length (now samples)) ⌝ }
     ensures { λ _. ⌜ Decodes 16 (shift .0) bias (now (weights .entry)) (now (state .entry)) (now (latents .entry)) (now (latents .exit)) (now (state .exit)) ⌝ }
 {
     centre::w16::toggle_center_in_place(latents);
-    let order = state.len();
+    slices::w16::copy(state, samples);
+    decode_residuals(weights, bias, shift, samples, latents);
     let count = latents.len();
-    let end = order + count;
-    slices::w16::copy(state, residuals);
-    slices::w16::copy(latents, &mut residuals[order..end]);
-    decode_residuals(weights, bias, shift, &mut residuals[..end]);
-    slices::w16::copy(&residuals[..count], latents);
-    slices::w16::copy(&residuals[count..end], state);
+    let end = count + state.len();
+    slices::w16::copy(&samples[count..end], state);
 }
 
 // Batch after batch, each from the state that the one before it left. The Rust copies all latents at once, into memory that it asks for.
@@ -74,7 +75,7 @@ fn decode_latents(
     requires { ⌜ Startable 16 (shift .0) bias (now weights) (now state) ⌝ }
     ensures { λ _. ⌜ Decodes 16 (shift .0) bias (now (weights .entry)) (now (state .entry)) (now (latents .entry)) (now (latents .exit)) (now (state .exit)) ⌝ }
 {
-    let mut residuals: [u16; 160] = [0; 160];
+    let mut samples: [u16; 160] = [0; 160];
     let mut start = 0;
     while start < latents.len() {
         let end = slices::least(start + BATCH, latents.len());
@@ -82,7 +83,7 @@ fn decode_latents(
             weights,
             bias,
             shift,
-            &mut residuals,
+            &mut samples,
             state,
             &mut latents[start..end],
         );

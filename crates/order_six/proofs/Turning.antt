@@ -1,93 +1,25 @@
--- A turn of the order-6 loop, over the width W: it decodes one residual, so it is a batch of one, and its sample is predicted from
--- the first running sum. Assumes nothing.
-use mathlib.Core.Path.{_≡_, sym, ap, _∙_}
-use mathlib.Core.List.{List, [], _∷_, _++_, map, append-assoc, append-nil}
-use Prim.Native.Nat.{ℕ, suc, _+_, _-_, _%_, _^_, _≤_, _<_}
-use native.Mathlib.Numerals.{add-one}
+-- A turn of the order-6 loop, over the width W: its sample is predicted from the first running sum. Assumes nothing.
+use mathlib.Core.Path.{_≡_, ap, _∙_}
+use mathlib.Core.List.{List}
+use Prim.Native.Nat.{ℕ, _+_, _%_, _^_, _<_}
 use native.Mathlib.Omega.{arith}
 use lib.IntN.{ℤ, pos}
-use lib.ListN.{length, getD, take, drop, set, length-append, length-map, drop-of-length-le, take-append-drop}
-use lib.Seq.{set-split, set-at, getD-at, drop-drop, drop-cons, take-suc, take-all, take-suc-set, drop-set-lt, length-take-le}
-use borrow.Rule.Slice.PartMut.{putMid}
+use lib.ListN.{length, getD, set}
 use Rattle.rule.specs.Prediction.{settle, prediction}
-use Rattle.rule.specs.Coding.{toggled, restored}
-use Rattle.centre.proofs.Toggling.{restored-toggled}
-use Rattle.extending.proofs.Extending as extending
 use Rattle.decoding.proofs.Batches as batches
+use Rattle.decoding.proofs.Turning as turning
 use Rattle.order_six.specs.Running.{Runs, shifted}
 use Rattle.order_six.proofs.Running as running
 
--- a part of one element
-module _ (l : List ℕ) (i v : ℕ) (within : i < length l) where
-  one-long : i + 1 - i ≡ 1
-  one-long = omega arith
-
-  part-one : take (i + 1 - i) (drop i l) ≡ getD l i 0 ∷ []
-  part-one = rw (one-long, drop-cons l i 0 within)
-
-  put-one : putMid i (i + 1 - i) l (v ∷ []) ≡ set l i v
-  put-one = rw (one-long, drop-drop 1 i l, add-one) (sym (set-split l i v within))
-
--- the places before i as they are, and those from i on, which had MID off, with it
-abbrev pub mixed : ℕ → ℕ → List ℕ → List ℕ
-mixed W i l = take i l ++ map (toggled W) (drop i l)
-
-module _ (W i : ℕ) (l : List ℕ) where
-  pub mixed-long : length (mixed W i l) ≡ length l
-  mixed-long =
-      length-append (take i l) (map (toggled W) (drop i l))
-      ∙ ap (λ (n : ℕ). length (take i l) + n) (length-map (drop i l) (toggled W))
-      ∙ sym (length-append (take i l) (drop i l))
-      ∙ ap length (take-append-drop i l)
-
-  pub mixed-all : length l ≤ i → mixed W i l ≡ l
-  mixed-all past = rw (take-all i l past, drop-of-length-le l past) (append-nil l)
-
-  module _ (within : i < length l) where
-    front : length (take i l) ≡ i
-    front = length-take-le i l (omega arith)
-
-    mixed-at : mixed W i l ≡ take i l ++ toggled W (getD l i 0) ∷ map (toggled W) (drop (suc i) l)
-    mixed-at = ap (λ (m : List ℕ). take i l ++ map (toggled W) m) (drop-cons l i 0 within)
-
-    mixed-get : getD (mixed W i l) i 0 ≡ toggled W (getD l i 0)
-    mixed-get = rw mixed-at (getD-at (take i l) (toggled W (getD l i 0)) (map (toggled W) (drop (suc i) l)) 0 i front)
-
-    mixed-set : (v : ℕ) → set (mixed W i l) i v ≡ mixed W (i + 1) (set l i v)
-    mixed-set v =
-        rw (
-          mixed-at,
-          set-at (take i l) (toggled W (getD l i 0)) (map (toggled W) (drop (suc i) l)) v i front,
-          add-one,
-          take-suc-set l i v within,
-          drop-set-lt (suc i) l i v (omega arith),
-          append-assoc,
-        )
-
 module _ (q : ℕ) {W : ℕ} {bias : ℤ} {ws : List ℤ} {xs : List ℕ} {ns : List ℤ} (r : Runs W bias ws xs ns) where
-  oldest : take 1 xs ≡ getD xs 0 0 ∷ []
-  oldest = take-suc xs 0 0 (omega (arith, r .samples))
-
   predicted : settle W q (getD ns 0 (pos 0)) ≡ prediction W q bias ws xs
   unfolding prediction
   predicted = ap (settle W q) (running.sum-at r 0)
 
-  coded-turn : (state₀ latents₀ latents : List ℕ) (i y : ℕ) → length state₀ ≡ length ws
-      → batches.Going W (length ws) (prediction W q bias ws) state₀ latents₀ xs latents i
-      → i < length latents → y ≡ restored W (getD latents i 0) (settle W q (getD ns 0 (pos 0)))
-      → batches.Going W (length ws) (prediction W q bias ws) state₀ latents₀ (shifted xs y) (set latents i (getD xs 0 0)) (i + 1)
-  coded-turn state₀ latents₀ latents i y full₀ g within e =
-      rw (put-one latents i (getD xs 0 0) within) at
-      (batches.turn W (length ws) (prediction W q bias ws) state₀ latents₀ full₀ g (i + 1) (getD xs 0 0 ∷ []) (shifted xs y) (omega arith) (omega (arith, g .same))
-      (rw (part-one latents i 0 within) (sym (extending.decoded-one W (length ws) (prediction W q bias ws) xs (getD latents i 0) (g .full) (omega (arith, r .weights)) ∙ oldest)))
-      (rw (part-one latents i 0 within, e, predicted) (sym (extending.state-one W (length ws) (prediction W q bias ws) xs (getD latents i 0) (g .full) (omega (arith, r .weights))))))
-
-  -- the latents stand with MID off
   pub turn : (state₀ latents₀ latents : List ℕ) (i y : ℕ) → length state₀ ≡ length ws
-      → batches.Going W (length ws) (prediction W q bias ws) state₀ latents₀ xs (mixed W i latents) i
+      → batches.Going W (length ws) (prediction W q bias ws) state₀ latents₀ xs (turning.mixed W i latents) i
       → i < length latents → y ≡ (getD latents i 0 + settle W q (getD ns 0 (pos 0))) % 2 ^ W
-      → batches.Going W (length ws) (prediction W q bias ws) state₀ latents₀ (shifted xs y) (mixed W (i + 1) (set latents i (getD xs 0 0))) (i + 1)
+      → batches.Going W (length ws) (prediction W q bias ws) state₀ latents₀ (shifted xs y) (turning.mixed W (i + 1) (set latents i (getD xs 0 0))) (i + 1)
   turn state₀ latents₀ latents i y full₀ g within e =
-      rw (mixed-set W i latents within (getD xs 0 0)) at
-      (coded-turn state₀ latents₀ (mixed W i latents) i y full₀ g (omega (arith, mixed-long W i latents))
-      (e ∙ rw (mixed-get W i latents within) (sym (restored-toggled W (getD latents i 0) (settle W q (getD ns 0 (pos 0)))))))
+      turning.turn W (length ws) (prediction W q bias ws) (omega (arith, r .weights)) state₀ latents₀ full₀ xs latents i y g within
+      (e ∙ ap (λ (z : ℕ). (getD latents i 0 + z) % 2 ^ W) predicted)
