@@ -36,22 +36,17 @@ module _ (W k : ℕ) (p : List ℕ → ℕ) (some : 1 ≤ k) (s₀ l₀ : List �
   begun = record { room = refl; same = refl; going = batches.begun W k p (take k s₀) (map (toggled W) l₀) full₀ }
 
   module _ {s l : List ℕ} {i : ℕ} (h : Holds W k p s₀ l₀ s l i) where
-    -- the part that a prediction is made from
-    pub part-known : take (i + k - i) (drop i s) ≡ take k (drop i s)
-    part-known = ap (λ (n : ℕ). take n (drop i s)) whole
-      where
-        whole : i + k - i ≡ k
-        whole = omega arith
-
-    pub turn : i < length l → i + k < length s → (y : ℕ) → y ≡ (getD l i 0 + p (take k (drop i s))) % 2 ^ W
+    -- the prediction is made from the part between i and i + k
+    pub turn : i < length l → i + k < length s → (predicted y : ℕ) → predicted ≡ p (take (i + k - i) (drop i s)) → y ≡ (getD l i 0 + predicted) % 2 ^ W
         → Holds W k p s₀ l₀ (set s (i + k) y) (set l i (getD s i 0)) (i + 1)
-    turn within inside y e =
+    turn within inside predicted y e f =
+        let whole : i + k - i ≡ k = omega arith in
         record {
           room = length-set s (i + k) y ∙ h .room;
           same = length-set l i (getD s i 0) ∙ h .same;
           going =
               rw (slid k s i y some inside, ← oldest k s i some)
-              (turning.turn W k p some (take k s₀) (map (toggled W) l₀) full₀ (take k (drop i s)) l i y (h .going) within e);
+              (turning.turn W k p some (take k s₀) (map (toggled W) l₀) full₀ (take k (drop i s)) l i y (h .going) within (rw (e, whole) at f));
         }
 
     pub ended : length l ≤ i → (l ≡ decodedPiece W k p (take k s₀) (map (toggled W) l₀)) × (take k (drop (length l₀) s) ≡ newState W k p (take k s₀) (map (toggled W) l₀))

@@ -1,9 +1,8 @@
 -- The loop is `Residuals`'. Assumes nothing.
-use mathlib.Core.Path.{ap, _∙_}
-use Prim.Native.Nat.{ℕ, _+_, _-_, _%_, _^_}
+use Prim.Native.Nat.{_-_}
 use native.Mathlib.Omega.{arith}
 use borrow.Author.Needs.{needs}
-use lib.ListN.{length, getD, length-set}
+use lib.ListN.{length, length-set}
 use mir.Syntax.{w64 as acc}
 use mir.Val.{toZ, ofZ}
 use mir.Facts.{toZ-ofZ}
@@ -86,10 +85,7 @@ loop-again c =
     let s = c .before .before .before .before .before .before .before .before .before .before in
     let a = s .args in
     let p = prediction 32 (a .shift .0) (toZ acc (ofZ acc (a .bias))) (a .weights .now) in
-    law.turn 32 (length (a .weights .now)) p (s .pre .0 .some) (a .samples .now) (a .latents .now) (s .pre .0 .full) (l .inv) (omega arith) (omega (arith, l .inv .room, l .inv .same)) (c .before .put-on .result)
-    (c .before .put-on .ensures
-    ∙ ap (λ (y : ℕ). (getD (l .latents) (l .i) 0 + y) % 2 ^ 32)
-    (c .before .before .before .predict-one .ensures ∙ ap p (law.part-known 32 (length (a .weights .now)) p (s .pre .0 .some) (a .samples .now) (a .latents .now) (s .pre .0 .full) (l .inv))))
+    law.turn 32 (length (a .weights .now)) p (s .pre .0 .some) (a .samples .now) (a .latents .now) (s .pre .0 .full) (l .inv) (omega arith) (omega (arith, l .inv .room, l .inv .same)) _ _ (c .before .before .before .predict-one .ensures) (c .before .put-on .ensures)
 
 same-length : tie.Need-same-length Inv-loop μ-loop
 same-length c = search needs
