@@ -198,13 +198,12 @@ fn every_length(order: usize)
     at_widths(order, 2016);
 }
 
-fn edge_of(width: u64, order: usize, shift: u32, bias: i64, first: [i32; 3])
-    requires { ⌜ order ≤ 3 ⌝ }
+// The last weight, and one that stands for each before it.
+fn edge(width: u64, order: usize, shift: u32, bias: i64, before: i32, last: i32)
+    requires { ⌜ (1 ≤ order) × (order ≤ 33) ⌝ }
 {
-    let mut weights = [0i32; 33];
-    weights[0] = first[0];
-    weights[1] = first[1];
-    weights[2] = first[2];
+    let mut weights = [before; 33];
+    weights[order - 1] = last;
     run(
         Case {
             width,
@@ -218,33 +217,29 @@ fn edge_of(width: u64, order: usize, shift: u32, bias: i64, first: [i32; 3])
     );
 }
 
-fn edge(width: u64, shift: u32, bias: i64, weight: i32) {
-    edge_of(width, 1, shift, bias, [weight, 0, 0]);
-}
-
 // Shifts at both ends, sums at the accumulator's edges, sums below 0 and predictions that wrap.
 fn edges() {
-    edge(8, 0, 127, 128);
-    edge(8, 0, 128, 128);
-    edge(8, 15, -127, -128);
-    edge(8, 0, -128, -128);
-    edge(8, 16, 0, 1);
-    edge_of(8, 2, 0, 0, [64, 64, 0]);
-    edge_of(8, 2, 6, 0, [-64, 128, 0]);
-    edge(8, 0, -9223372036854775808, 0);
-    edge(16, 0, 32767, 32768);
-    edge(16, 0, 65535, 32768);
-    edge(16, 0, 0, 32769);
-    edge(16, 31, -65535, -32767);
-    edge(16, 32, 0, 1);
-    edge(32, 0, 0, 2147483647);
-    edge(32, 0, 2147483647, -2147483648);
-    edge(32, 0, 2147483648, -2147483648);
-    edge(32, 63, -9223372036854775807, 0);
-    edge(32, 0, -9223372036854775808, 0);
-    edge(32, 64, 0, 1);
-    edge_of(32, 3, 0, 0, [-2147483648, -2147483648, 2]);
-    edge(32, 0, 0, 2);
+    edge(8, 1, 0, 127, 0, 128);
+    edge(8, 1, 0, 128, 0, 128);
+    edge(8, 1, 15, -127, 0, -128);
+    edge(8, 1, 0, -128, 0, -128);
+    edge(8, 1, 16, 0, 0, 1);
+    edge(8, 2, 0, 0, 64, 64);
+    edge(8, 2, 6, 0, -64, 128);
+    edge(8, 1, 0, -9223372036854775808, 0, 0);
+    edge(16, 1, 0, 32767, 0, 32768);
+    edge(16, 1, 0, 65535, 0, 32768);
+    edge(16, 1, 0, 0, 0, 32769);
+    edge(16, 1, 31, -65535, 0, -32767);
+    edge(16, 1, 32, 0, 0, 1);
+    edge(32, 1, 0, 0, 0, 2147483647);
+    edge(32, 1, 0, 2147483647, 0, -2147483648);
+    edge(32, 1, 0, 2147483648, 0, -2147483648);
+    edge(32, 1, 63, -9223372036854775807, 0, 0);
+    edge(32, 1, 0, -9223372036854775808, 0, 0);
+    edge(32, 1, 64, 0, 0, 1);
+    edge(32, 3, 0, 0, -2147483648, 2);
+    edge(32, 1, 0, 0, 0, 2);
 }
 
 // One fault, and faults that meet: the first in the order 1, 2, 4, 3, 5 is told.
