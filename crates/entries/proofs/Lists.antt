@@ -9,7 +9,7 @@ use native.Mathlib.Omega.{arith}
 use lib.IntN.{ℤ}
 use mir.Syntax.{Width}
 use mir.Val.{toZ}
-use lib.ListN.{length, getD, take, drop, length-append, length-take, length-drop}
+use lib.ListN.{length, getD, take, drop, length-append, length-drop}
 use lib.Seq.{take-nil, take-at, drop-at, drop-append-add, length-take-le, take-take, take-suc, drop-drop, take-add, take-all}
 use Rattle.rule.specs.Coding.{tabulate}
 use Rattle.rule.proofs.Filling.{Filled, length-tabulate, getD-tabulate, tabulate-same, tabulate-part}

@@ -2,7 +2,6 @@
 use Prim.Native.Nat.{_-_, _≤_}
 use native.Mathlib.Omega.{arith}
 use borrow.Author.Needs.{needs}
-use lib.ListN.{length}
 use Rattle.entries.proofs.Turns as turns
 use Rattle.entries.proofs.write_entry.Statement.{statement}
 use Rattle.entries.proofs.write_entry.Tie as tie
