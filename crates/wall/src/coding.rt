@@ -1,5 +1,5 @@
-// Coding at any width. The coders that are called work on bytes, a sample in as many as its width has, the least significant first, so
-// that only `encode_bytes` and `decode_bytes` ask which width it is.
+// Coding at any width. The coders that are called work on bytes, a sample in as many as its width has, the least significant first. The
+// width is asked for here alone: which coder to call, how many bytes samples have, and which number stands in them.
 use crate::reading::Configuration;
 use crate::reading::Numbers;
 use kinds::Answer;
