@@ -4,14 +4,13 @@
 // out in whole numbers.
 use kinds::Width;
 ghost use mathlib.Core.Path.{_≡_};
-ghost use Prim.Native.Nat.{_-_, min};
 ghost use lib.ListN.{take};
 ghost use Rattle.kinds.specs.Widths.{bitsOf};
-ghost use Rattle.rule.specs.Numbers.{greatest, accumulator, limit};
+ghost use Rattle.rule.specs.Numbers.{greatest, limit};
 ghost use Rattle.scaling.specs.Steps.{float, total, absTotal, scaleOf};
 
 // The greatest shift that the delta record's field holds.
-const MAX_CONV1_DELTA_QUANTIZATION: u64 = 31;
+const MAX_CONV1_DELTA_QUANTIZATION: usize = 31;
 
 // The shift and the float bias, before anything is made whole.
 pub enum Scale {
@@ -45,23 +44,6 @@ fn accumulator_limit(width: Width) -> f64
         Width::Sixteen => 2147483647.0,
         Width::ThirtyTwo => 9223372036854775808.0,
     }
-}
-
-// A-1.
-fn greatest_accumulator_shift(width: Width) -> u64
-    ensures { λ r. ⌜ r ≡ accumulator (bitsOf width) - 1 ⌝ }
-{
-    match width {
-        Width::Eight => 15,
-        Width::Sixteen => 31,
-        Width::ThirtyTwo => 63,
-    }
-}
-
-fn lesser(a: u64, b: u64) -> u64
-    ensures { λ r. ⌜ r ≡ min a b ⌝ }
-{
-    if a <= b { a } else { b }
 }
 
 // Step 1. An order above 32 takes the 32 weights that there are.
@@ -111,10 +93,8 @@ pub fn choose_scale(
     if e < 1075 {
         return Scale::Nothing;
     }
-    let q = lesser(
-        lesser(e - 1075, MAX_CONV1_DELTA_QUANTIZATION),
-        greatest_accumulator_shift(width),
-    );
-    let quantization = q as u32;
+    let recorded = slices::least((e - 1075) as usize, MAX_CONV1_DELTA_QUANTIZATION);
+    let accumulated = (limits::accumulator_bits(width) - 1) as usize;
+    let quantization = slices::least(recorded, accumulated) as u32;
     Scale::By(quantization, float_bias)
 }

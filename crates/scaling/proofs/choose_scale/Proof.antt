@@ -2,7 +2,8 @@
 use mathlib.Core.Path.{_≡_, sym, ap, ap₂, _∙_, subst}
 use mathlib.Core.Bool.{true}
 use mathlib.Core.List.{List}
-use Prim.Native.Nat.{ℕ, _-_, min}
+use Prim.Native.Nat.{ℕ, _-_, _≤_, min}
+use native.Mathlib.Omega.{arith}
 use borrow.Author.Needs.{needs}
 use lib.Dec.{T}
 use lib.IntN.{ℤ}
@@ -12,6 +13,8 @@ use lib.Ieee.Positive.{positive}
 use lib.Ieee.Scale.{finite}
 use Rattle.floats.specs.Values.{magnitude, exponentOf}
 use Rattle.floats.proofs.Compared.{yes, not-was-true, not-was-false}
+use Rattle.kinds.specs.declared.Width.{Width}
+use Rattle.kinds.specs.declared.Width.the-variants.{Eight, Sixteen, ThirtyTwo}
 use Rattle.kinds.specs.Widths.{bitsOf}
 use Rattle.rule.specs.Numbers.{accumulator}
 use Rattle.scaling.specs.Steps.{_⊕_, _⊗_, _⊖_, _⊘_, float, total, absTotal, floatBias, divisor, quotient, greatestShift, scaleAt, scaleOf}
@@ -159,14 +162,27 @@ exponent-requires c κs =
 returns-4 : tie.Need-returns-4
 returns-4 c = scale-at (c .before) Nothing (scale-negative _ (c .before .exponent .result) _ (c .if4 .taken))
 
-lesser-requires : tie.Need-lesser-requires
-lesser-requires c κs = search needs
+least-requires : tie.Need-least-requires
+least-requires c κs = search needs
 
-greatest-accumulator-shift-requires : tie.Need-greatest-accumulator-shift-requires
-greatest-accumulator-shift-requires c κs = search needs
+accumulator-bits-requires : tie.Need-accumulator-bits-requires
+accumulator-bits-requires c κs = search needs
 
-lesser-requires-2 : tie.Need-lesser-requires-2
-lesser-requires-2 c κs = search needs
+some-bits : (w : Width) → 1 ≤ accumulator (bitsOf w)
+some-bits Eight = omega arith
+some-bits Sixteen = omega arith
+some-bits ThirtyTwo = omega arith
+
+sub-accumulated : tie.Need-sub-accumulated
+sub-accumulated c =
+    let s = start (c .before .before .before .before .before .before) in
+    subst (λ (A : ℕ). 1 ≤ A) (sym (c .accumulator-bits .ensures)) (some-bits (s .args .width))
+
+cast-accumulated : tie.Need-cast-accumulated
+cast-accumulated c = search needs
+
+least-requires-2 : tie.Need-least-requires-2
+least-requires-2 c κs = search needs
 
 cast-quantization : tie.Need-cast-quantization
 cast-quantization c = search needs
@@ -177,8 +193,8 @@ returns-5 c =
     let l = g .before in
     let x = l .before .before in
     let t = x .before .before .before in
-    let least : c .lesser2 .result ≡ min (min (x .exponent .result - 1075) greatestShift) (accumulator (W (start t)) - 1) =
-    c .lesser2 .ensures ∙ ap₂ min (l .lesser .ensures) (g .greatest-accumulator-shift .ensures) in
+    let least : c .least2 .result ≡ min (min (x .exponent .result - 1075) greatestShift) (accumulator (W (start t)) - 1) =
+    c .least2 .ensures ∙ ap₂ min (l .least .ensures) (ap (λ (A : ℕ). A - 1) (g .accumulator-bits .ensures)) in
     scale-at x _ (ap₂ By least (bias-at t) ∙ scale-by (W (start t)) (x .exponent .result) (bias t) (l .before .if4 .left))
 
 pub choose-scale-spec : {M : Type 1} → statement M
@@ -198,8 +214,10 @@ choose-scale-spec =
     accumulator-limit-requires
     exponent-requires
     returns-4
-    lesser-requires
-    greatest-accumulator-shift-requires
-    lesser-requires-2
+    least-requires
+    accumulator-bits-requires
+    sub-accumulated
+    cast-accumulated
+    least-requires-2
     cast-quantization
     returns-5)
