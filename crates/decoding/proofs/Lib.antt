@@ -1,4 +1,1 @@
-pub mod Starting
-pub mod Batches
-pub mod Turning
 pub mod Residuals

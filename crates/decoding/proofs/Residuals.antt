@@ -9,8 +9,8 @@ use native.Mathlib.Omega.{arith}
 use lib.ListN.{length, getD, take, drop, set, length-set, length-map, length-drop}
 use lib.Seq.{getD-take, getD-drop, drop-cons, drop-set-add, take-suc-set}
 use Rattle.rule.specs.Coding.{toggled, decodedPiece, newState}
-use Rattle.decoding.proofs.Batches as batches
-use Rattle.decoding.proofs.Turning as turning
+use Rattle.decoding_steps.proofs.Batches as batches
+use Rattle.decoding_steps.proofs.Turning as turning
 
 -- the k samples from i on, as a sample is written behind them
 slid : (k : ℕ) (l : List ℕ) (i y : ℕ) → 1 ≤ k → i + k < length l → take k (drop (i + 1) (set l (i + k) y)) ≡ drop 1 (take k (drop i l)) ++ y ∷ []

@@ -15,7 +15,7 @@ ghost use Rattle.kinds.specs.Answers.{whenDone};
 ghost use Rattle.rule.specs.Prediction.{admitted};
 ghost use Rattle.rule.specs.Coding.{decodedPiece, newState};
 ghost use Rattle.rule.specs.Refusals.{config, predictor, orderSixRefusal};
-ghost use Rattle.decoding.specs.Steps.{Startable, Decodes};
+ghost use Rattle.decoding_steps.specs.Steps.{Startable, Decodes};
 ghost use Rattle.order_six.specs.Running.{Runs, Grows, shifted};
 
 // A sum in a register's width, as `prediction` has it, and the weights and the bias to go with it.

@@ -9,7 +9,7 @@ use lib.ListN.{length, take}
 use mir.Facts.{toZ-ofZ}
 use Rattle.rule.specs.Coding.{toggled}
 use Rattle.centre.proofs.Toggling.{all-twice}
-use Rattle.decoding.proofs.Batches as law
+use Rattle.decoding_steps.proofs.Batches as law
 use Rattle.decoding.proofs.w16.decode_batch.Statement.{statement}
 use Rattle.decoding.proofs.w16.decode_batch.Tie as tie
 

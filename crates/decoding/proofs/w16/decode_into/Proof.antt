@@ -14,7 +14,7 @@ use Rattle.kinds.specs.Answers.{isDone}
 use Rattle.rule.specs.Refusals.{Config, config, codingRefusal}
 use Rattle.rule.proofs.Passing.{Passed, coding-passed}
 use Rattle.prediction.proofs.Converting as converting
-use Rattle.decoding.proofs.Starting as starting
+use Rattle.decoding_steps.proofs.Starting as starting
 use Rattle.decoding.proofs.w16.decode_into.Statement.{statement}
 use Rattle.decoding.proofs.w16.decode_into.Tie as tie
 

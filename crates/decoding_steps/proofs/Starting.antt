@@ -8,7 +8,7 @@ use lib.ListN.{length}
 use Rattle.rule.specs.Coding.{decodedPiece, newState}
 use Rattle.rule.specs.Refusals.{Config, predictor}
 use Rattle.rule.proofs.Passing.{Passed}
-use Rattle.decoding.specs.Steps.{Startable, Decodes}
+use Rattle.decoding_steps.specs.Steps.{Startable, Decodes}
 
 module _ (W : ℕ) (c : Config) (state : ℕ) (ok : Passed W c state) {bias : ℤ} {ws : List ℤ} (bias-is : bias ≡ c .bias) (weights-are : ws ≡ c .weights) where
   pub startable : (samples : List ℕ) → length samples ≡ c .order → Startable W (c .shift) bias ws samples

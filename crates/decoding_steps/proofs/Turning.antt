@@ -11,7 +11,7 @@ use borrow.Rule.Slice.PartMut.{putMid}
 use Rattle.rule.specs.Coding.{toggled, restored}
 use Rattle.centre.proofs.Toggling.{restored-toggled}
 use Rattle.extending.proofs.Extending as extending
-use Rattle.decoding.proofs.Batches as batches
+use Rattle.decoding_steps.proofs.Batches as batches
 
 -- a part of one element
 module _ (l : List ℕ) (i v : ℕ) (within : i < length l) where
