@@ -8,7 +8,7 @@ ghost use Rattle.bits.specs.Fields.{withField};
 ghost use Rattle.record.specs.Signed.{raised};
 ghost use Rattle.record.specs.Widths.{weightPlace};
 ghost use Rattle.record.specs.Writing.{flagValue, weightField, fieldsOf, bitsOf, putFields, unused, misordered, unfit, writeAnswer, bytesAfter};
-use bits::write_uint;
+use bit_writing::write_uint;
 use kinds::Order;
 use kinds::Shift;
 use record::AFTER_BIAS;

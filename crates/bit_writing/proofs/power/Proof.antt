@@ -2,8 +2,8 @@
 use native.Mathlib.Omega.{arith}
 use borrow.Author.Needs.{needs}
 use lib.Pow.{shl-exact}
-use Rattle.bits.proofs.power.Statement.{statement}
-use Rattle.bits.proofs.power.Tie as tie
+use Rattle.bit_writing.proofs.power.Statement.{statement}
+use Rattle.bit_writing.proofs.power.Tie as tie
 use mathlib.Core.Path.{_∙_}
 
 shl-result : tie.Need-shl-result

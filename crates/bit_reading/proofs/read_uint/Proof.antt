@@ -2,12 +2,12 @@
 use mathlib.Core.Path.{sym, ap, _∙_}
 use native.Mathlib.Omega.{arith}
 use borrow.Author.Tests.{lt-leb}
 use Rattle.bits.specs.Fields.{found}
 use Rattle.bits.specs.declared.Found.the-variants.{Number}
 use Rattle.bits.proofs.Fields.{found-number, found-missing}
 use borrow.Author.Needs.{needs}
-use Rattle.bits.proofs.read_uint.Statement.{statement}
-use Rattle.bits.proofs.read_uint.Tie as tie
+use Rattle.bit_reading.proofs.read_uint.Statement.{statement}
+use Rattle.bit_reading.proofs.read_uint.Tie as tie
 
 returns : tie.Need-returns
 unfolding found

@@ -3,8 +3,8 @@ use mathlib.Core.Path.{_≡_}
 use Prim.Native.Nat.{_+_, _/_, _%_}
 use native.Mathlib.Omega.{arith}
 use borrow.Author.Needs.{needs}
-use Rattle.bits.proofs.bit.Statement.{statement}
-use Rattle.bits.proofs.bit.Tie as tie
+use Rattle.bit_reading.proofs.bit.Statement.{statement}
+use Rattle.bit_reading.proofs.bit.Tie as tie
 
 add-past : tie.Need-add-past
 add-past c = search needs

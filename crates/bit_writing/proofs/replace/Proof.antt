@@ -3,11 +3,11 @@ use mathlib.Core.Path.{_≡_}
 use Prim.Native.Nat.{_+_, _*_, _/_, _%_, _<_}
 use native.Mathlib.Omega.{arith}
 use lib.Pow.{pow-pos}
 use Rattle.bits.specs.Fields.{replaced}
 use Rattle.bits.proofs.Bits.{replaced-lt}
 use borrow.Author.Needs.{needs}
-use Rattle.bits.proofs.replace.Statement.{statement}
-use Rattle.bits.proofs.replace.Tie as tie
+use Rattle.bit_writing.proofs.replace.Statement.{statement}
+use Rattle.bit_writing.proofs.replace.Tie as tie
 
 power-requires : tie.Need-power-requires
 power-requires c κs = search needs

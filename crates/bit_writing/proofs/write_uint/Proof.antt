@@ -5,10 +5,10 @@ use Prim.Native.Nat.{ℕ, _+_, _-_, _/_, _%_, _^_, _≤_}
 use native.Mathlib.Omega.{arith}
 use lib.ListN.{length}
 use lib.Pow.{shr-shr}
 use Rattle.bits.specs.Fields.{bitOf, withBit, withField}
 use Rattle.bits.proofs.Fields.{put-none, put-more, put-length}
-use Rattle.bits.proofs.write_uint.Statement.{statement}
-use Rattle.bits.proofs.write_uint.Tie as tie
+use Rattle.bit_writing.proofs.write_uint.Statement.{statement}
+use Rattle.bit_writing.proofs.write_uint.Tie as tie
 
 abbrev Inv-loop : tie.InvT-loop
 Inv-loop bytes₀ at width value left₀ i₀ bytes left i =

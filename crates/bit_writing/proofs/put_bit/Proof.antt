@@ -4,10 +4,10 @@ use Prim.Native.Nat.{_+_, _/_, _%_}
 use native.Mathlib.Omega.{arith}
 use lib.ListN.{getD}
 use lib.Seq.{set-out}
 use Rattle.bits.specs.Fields.{replaced}
 use borrow.Author.Needs.{needs}
-use Rattle.bits.proofs.put_bit.Statement.{statement}
-use Rattle.bits.proofs.put_bit.Tie as tie
+use Rattle.bit_writing.proofs.put_bit.Statement.{statement}
+use Rattle.bit_writing.proofs.put_bit.Tie as tie
 
 add-past : tie.Need-add-past
 add-past c = search needs

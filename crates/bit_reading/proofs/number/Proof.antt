@@ -4,10 +4,10 @@ use Prim.Native.Nat.{ℕ, _+_, _-_, _*_, _%_, _^_, _≤_, _<_}
 use native.Mathlib.Omega.{arith}
 use native.Mathlib.Nat.{lt-of-lt-of-le}
 use lib.Pow.{pow-mono, shl-exact}
 use Rattle.bits.specs.Fields.{bitAt, fieldAt}
 use Rattle.bits.proofs.Fields.{field-none, field-more, field-lt}
-use Rattle.bits.proofs.number.Statement.{statement}
-use Rattle.bits.proofs.number.Tie as tie
+use Rattle.bit_reading.proofs.number.Statement.{statement}
+use Rattle.bit_reading.proofs.number.Tie as tie
 
 abbrev Inv-loop : tie.InvT-loop
 Inv-loop bytes at width sum₀ i₀ sum i = (i ≤ width) × (sum ≡ fieldAt bytes at i)
