@@ -1,7 +1,7 @@
 -- Each way out knows what the variant is. Assumes nothing.
 use borrow.Author.Needs.{needs}
 use borrow.Author.Tests.{lt-ltb, le-ltb, ne-eqb}
-use Rattle.record_numbers.specs.Calls.{numbersRefusal}
+use Rattle.record_numbers.specs.Refusals.{numbersRefusal}
 use Rattle.record_numbers.proofs.numbers_answer.Statement.{statement}
 use Rattle.record_numbers.proofs.numbers_answer.Tie as tie
 

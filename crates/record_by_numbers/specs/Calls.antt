@@ -1,21 +1,20 @@
 -- What reading and writing a record in plain numbers answer, and what they leave in what they were lent.
-use mathlib.Core.Bool.{Bool, cond, not}
+use mathlib.Core.Bool.{Bool, not}
 use mathlib.Core.List.{List}
 use Prim.Native.Nat.{ℕ}
-use lib.Dec.{eqb, ltb}
+use lib.Dec.{eqb}
 use lib.IntN.{ℤ}
 use lib.ListN.{length}
-use Rattle.kinds.specs.declared.Answer.{Answer}
-use Rattle.kinds.specs.declared.Answer.the-variants.{Done, BadOrder, BadLength, UnknownVariant}
-use Rattle.kinds.specs.Answers.{refuse, whenDone}
+use Rattle.kinds.specs.declared.Answer.the-variants.{BadLength}
+use Rattle.kinds.specs.Answers.{whenDone}
 use Rattle.record.specs.declared.Reading.{Reading}
 use Rattle.record.specs.declared.Writing.{Writing}
 use Rattle.record.specs.Reading.{refusing, readRecord}
 use Rattle.record.specs.Writing.{writeAnswer, bytesAfter}
 use Rattle.record_numbers.specs.declared.Numbers.{Numbers}
-use Rattle.record_numbers.specs.declared.Readout.{Readout}
 use Rattle.record_numbers.specs.Numbers.{numbersOf, recordOf}
-use Rattle.rule.specs.Refusals.{orderFits}
+use Rattle.record_numbers.specs.Refusals.{numbersRefusal}
+use Rattle.record_by_numbers.specs.declared.Readout.{Readout}
 
 -- a reading in plain numbers: all 0 beside a refusal, whose record is the empty one
 abbrev pub readout : Reading → Readout
@@ -33,16 +32,6 @@ readNumbers bytes variants weights = readout (readInto bytes variants weights)
 abbrev pub weightsAfter : List ℕ → Bool → List ℤ → List ℤ
 weightsAfter bytes variants weights =
     whenDone (readInto bytes variants weights .answer) (readInto bytes variants weights .delta .weights) weights
-
--- tests 1 and 4, for Conv1 alone
-abbrev pub conv1Refusal : ℕ → ℕ → Answer
-conv1Refusal order weights = refuse (not (orderFits order)) BadOrder (refuse (not (eqb weights order)) BadLength Done)
-
--- what is tested before there is a record: 8; then, for Conv1, 1 and 4
-unfoldable pub numbersRefusal : Numbers → ℕ → Answer
-numbersRefusal n weights =
-    refuse (ltb 3 (n .variant)) UnknownVariant
-    (cond (eqb (n .variant) 3) (conv1Refusal (n .order .0) weights) Done)
 
 -- what writing answers: those tests, then the record's own
 unfoldable pub writeNumbers : Numbers → List ℤ → ℕ → Writing

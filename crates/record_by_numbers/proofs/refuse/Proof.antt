@@ -1,7 +1,7 @@
 -- The numbers of no encoding are all 0. Assumes nothing.
 use borrow.Author.Needs.{needs}
-use Rattle.record_numbers.proofs.refuse.Statement.{statement}
-use Rattle.record_numbers.proofs.refuse.Tie as tie
+use Rattle.record_by_numbers.proofs.refuse.Statement.{statement}
+use Rattle.record_by_numbers.proofs.refuse.Tie as tie
 
 numbers-of-requires : tie.Need-numbers-of-requires
 numbers-of-requires c κs = search needs

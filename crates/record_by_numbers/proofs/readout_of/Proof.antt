@@ -1,7 +1,7 @@
 -- The encoding's numbers, beside the reading's own. Assumes nothing.
 use borrow.Author.Needs.{needs}
-use Rattle.record_numbers.proofs.readout_of.Statement.{statement}
-use Rattle.record_numbers.proofs.readout_of.Tie as tie
+use Rattle.record_by_numbers.proofs.readout_of.Statement.{statement}
+use Rattle.record_by_numbers.proofs.readout_of.Tie as tie
 
 numbers-of-requires : tie.Need-numbers-of-requires
 numbers-of-requires c κs = search needs

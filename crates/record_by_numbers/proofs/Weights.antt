@@ -12,8 +12,8 @@ use Rattle.kinds.specs.declared.Answer.the-variants.{Done, BadOrder, BadLength}
 use Rattle.kinds.specs.Answers.{isDone, refuse}
 use Rattle.record.proofs.Refusals.{order-range}
 use Rattle.rule.specs.Refusals.{orderFits}
 use Rattle.record_numbers.specs.declared.Numbers.{Numbers}
-use Rattle.record_numbers.specs.Calls.{conv1Refusal, numbersRefusal}
+use Rattle.record_numbers.specs.Refusals.{conv1Refusal, numbersRefusal}
 
 -- what a copy leaves of a slice no longer than what is copied into it
 pub replaced : (new old : List ℤ) → length old ≤ length new → new ++ drop (length new) old ≡ new

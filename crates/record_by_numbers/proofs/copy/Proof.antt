@@ -7,8 +7,8 @@ use lib.ListN.{length, getD}
 use lib.Seq.{take-length}
 use mir.Facts.{toZ-ofZ}
 use Rattle.rule.proofs.Filling as filling
-use Rattle.record_numbers.proofs.copy.Statement.{statement}
-use Rattle.record_numbers.proofs.copy.Tie as tie
+use Rattle.record_by_numbers.proofs.copy.Statement.{statement}
+use Rattle.record_by_numbers.proofs.copy.Tie as tie
 
 abbrev Inv-loop : tie.InvT-loop
 Inv-loop from to₀ i₀ to i = (i ≤ length from) × filling.Filled (λ (j : ℕ). getD from j (pos 0)) to₀ to i

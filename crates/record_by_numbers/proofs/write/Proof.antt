@@ -5,10 +5,11 @@ use borrow.Author.Tests.{not-true, not-false}
 use lib.ListN.{length}
 use Rattle.kinds.specs.declared.Answer.{Answer}
 use Rattle.kinds.specs.Answers.{isDone}
-use Rattle.record_numbers.specs.Calls.{numbersRefusal, writeNumbers, bytesAfterNumbers}
-use Rattle.record_numbers.proofs.Weights.{few}
-use Rattle.record_numbers.proofs.write.Statement.{statement}
-use Rattle.record_numbers.proofs.write.Tie as tie
+use Rattle.record_numbers.specs.Refusals.{numbersRefusal}
+use Rattle.record_by_numbers.specs.Calls.{writeNumbers, bytesAfterNumbers}
+use Rattle.record_by_numbers.proofs.Weights.{few}
+use Rattle.record_by_numbers.proofs.write.Statement.{statement}
+use Rattle.record_by_numbers.proofs.write.Tie as tie
 
 numbers-answer-requires : tie.Need-numbers-answer-requires
 numbers-answer-requires c κs = search needs

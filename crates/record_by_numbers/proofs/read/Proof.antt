@@ -2,9 +2,9 @@
 use mathlib.Core.Path.{refl, sym, _∙_}
 use borrow.Author.Needs.{needs}
 use borrow.Author.Tests.{eq-eqb, ne-eqb, not-true, not-false}
-use Rattle.record_numbers.specs.Calls.{readInto}
-use Rattle.record_numbers.proofs.read.Statement.{statement}
-use Rattle.record_numbers.proofs.read.Tie as tie
+use Rattle.record_by_numbers.specs.Calls.{readInto}
+use Rattle.record_by_numbers.proofs.read.Statement.{statement}
+use Rattle.record_by_numbers.proofs.read.Tie as tie
 
 refuse-requires : tie.Need-refuse-requires
 refuse-requires c κs = search needs

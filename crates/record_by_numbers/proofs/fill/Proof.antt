@@ -3,9 +3,9 @@ use mathlib.Core.Path.{_≡_, _∙_}
 use native.Mathlib.Omega.{arith}
 use borrow.Author.Needs.{needs}
 use lib.ListN.{length}
-use Rattle.record_numbers.proofs.Weights.{replaced}
-use Rattle.record_numbers.proofs.fill.Statement.{statement}
-use Rattle.record_numbers.proofs.fill.Tie as tie
+use Rattle.record_by_numbers.proofs.Weights.{replaced}
+use Rattle.record_by_numbers.proofs.fill.Statement.{statement}
+use Rattle.record_by_numbers.proofs.fill.Tie as tie
 
 long : (c : tie.Start) → length (c .args .t2) ≡ 32
 long c = search needs

@@ -6,8 +6,8 @@ use borrow.Author.Tests.{eq-eqb, ne-eqb}
 use lib.IntN.{ℤ, pos}
 use lib.ListN.{length}
 use Rattle.rule.proofs.Filling.{drop-replicate}
-use Rattle.record_numbers.proofs.weights_of.Statement.{statement}
-use Rattle.record_numbers.proofs.weights_of.Tie as tie
+use Rattle.record_by_numbers.proofs.weights_of.Statement.{statement}
+use Rattle.record_by_numbers.proofs.weights_of.Tie as tie
 
 returns : tie.Need-returns
 returns c = rw (ne-eqb _ _ (c .if1 .taken))

@@ -1,7 +1,7 @@
 -- The encoding and the array of the definition. Assumes nothing.
 use borrow.Author.Needs.{needs}
-use Rattle.record_numbers.proofs.record_of.Statement.{statement}
-use Rattle.record_numbers.proofs.record_of.Tie as tie
+use Rattle.record_by_numbers.proofs.record_of.Statement.{statement}
+use Rattle.record_by_numbers.proofs.record_of.Tie as tie
 
 encoding-of-requires : tie.Need-encoding-of-requires
 encoding-of-requires c κs = search needs
