@@ -1,4 +1,6 @@
 // The delta record by value, its field widths and its limits; specs/ says how it lies in bits.
+ghost use mathlib.Core.Path.{_≡_};
+ghost use Rattle.record.specs.Reading.{given, refused};
 use kinds::Answer;
 use kinds::Order;
 use kinds::Shift;
@@ -81,6 +83,31 @@ pub struct Reading {
     pub answer: Answer,
     pub delta: DeltaRecord,
     pub bits: usize,
+}
+
+pub fn refuse(answer: Answer) -> Reading
+    ensures { λ r. ⌜ r ≡ refused answer ⌝ }
+{
+    let delta = DeltaRecord {
+        encoding: DeltaEncoding::NoOp,
+        weights: [0i32; 32],
+    };
+    Reading {
+        answer,
+        delta,
+        bits: 0,
+    }
+}
+
+pub fn give(encoding: DeltaEncoding, weights: [i32; 32], bits: usize) -> Reading
+    ensures { λ r. ⌜ r ≡ given encoding weights bits ⌝ }
+{
+    let delta = DeltaRecord { encoding, weights };
+    Reading {
+        answer: Answer::Done,
+        delta,
+        bits,
+    }
 }
 
 // What writing answers: beside a refusal 0 bits.

@@ -18,8 +18,8 @@ use Rattle.record.specs.Signed.{lowered}
 use Rattle.record.specs.Widths.{weightPlace}
 use Rattle.record.proofs.Signed.{lowered-fits}
 use Rattle.record.proofs.Weights.{array-more}
-use Rattle.record_read.proofs.read_weights.Statement.{statement}
-use Rattle.record_read.proofs.read_weights.Tie as tie
+use Rattle.record_read_conv1.proofs.read_weights.Statement.{statement}
+use Rattle.record_read_conv1.proofs.read_weights.Tie as tie
 
 abbrev Inv-loop : tie.InvT-loop
 Inv-loop bytes encoding order weights₀ i₀ weights i =

@@ -7,8 +7,8 @@ use mir.Syntax.{w64}
 use mir.Val.{SFits}
 use Rattle.record.specs.Signed.{lowered}
 use Rattle.record.proofs.Signed.{lowered-low, lowered-high, lowered-fits}
-use Rattle.record_read.proofs.bias_from_latent_ordered.Statement.{statement}
-use Rattle.record_read.proofs.bias_from_latent_ordered.Tie as tie
+use Rattle.record_read_conv1.proofs.bias_from_latent_ordered.Statement.{statement}
+use Rattle.record_read_conv1.proofs.bias_from_latent_ordered.Tie as tie
 
 sub-result : tie.Need-sub-result
 sub-result c = search needs

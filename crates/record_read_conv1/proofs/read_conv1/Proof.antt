@@ -15,8 +15,8 @@ use Rattle.bits.proofs.Fields.{absent, present, field-lt}
 use Rattle.record.specs.Reading.{reading, readConv1}
 use Rattle.record.specs.Signed.{lowered}
 use Rattle.record.proofs.Signed.{lowered-fits}
-use Rattle.record_read.proofs.read_conv1.Statement.{statement}
-use Rattle.record_read.proofs.read_conv1.Tie as tie
+use Rattle.record_read_conv1.proofs.read_conv1.Statement.{statement}
+use Rattle.record_read_conv1.proofs.read_conv1.Tie as tie
 
 read-uint-requires : tie.Need-read-uint-requires
 read-uint-requires c κs = search needs
