@@ -18,7 +18,7 @@ ghost use Rattle.rule.specs.Refusals.{config, predictor, orderSixRefusal};
 ghost use Rattle.decoding_steps.specs.Steps.{Startable, Decodes};
 ghost use Rattle.order_six.specs.Running.{Runs, Grows, shifted};
 
-// A sum in a register's width, as `prediction` has it, and the weights and the bias to go with it.
+// A sum in a register's width, as `settling` has it, and the weights and the bias to go with it.
 type Wide = i32;
 
 // The last six samples, the oldest first, and the sums of the next six predictions as far as these samples go.
@@ -147,7 +147,7 @@ fn decode_latents(
     while i < latents.len() {
         let sums = running.sums;
         let samples = running.samples;
-        let prediction = prediction::w16::settle(sums[0], shift);
+        let prediction = settling::w16::settle(sums[0], shift);
         let latent = centre::w16::put_on(latents[i], prediction.value);
         latents[i] = samples[0];
         running = next(running, weights, bias, latent);

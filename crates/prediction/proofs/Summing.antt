@@ -2,17 +2,13 @@
 -- Every sum on the way is one of the first weights from the bias, so the two laws above `admitted` keep it inside.
 -- Assumes nothing.
 use mathlib.Core.Path.{_≡_, refl, sym, ap, _∙_, subst}
-use mathlib.Core.Bool.{true, false}
+use mathlib.Core.Bool.{true}
 use mathlib.Core.List.{List}
-use Prim.Native.Nat.{ℕ, _+_, _/_, _%_, _^_, _≤_, _<_}
-use native.Mathlib.Nat.{not-suc-le-zero, zero-div, zero-mod}
+use Prim.Native.Nat.{ℕ, _+_, _≤_, _<_}
 use native.Mathlib.Omega.{arith}
-use borrow.Author.Tests.{ltb-true}
-use lib.Dec.{T}
-use lib.IntN.{ℤ, pos, negsuc, natAbs, _+ℤ_, _*ℤ_}
+use lib.IntN.{ℤ, pos, _+ℤ_, _*ℤ_}
 use lib.ListN.{length, getD, take}
-use lib.Signed.{ltZ, nonNeg}
-use Rattle.rule.specs.Prediction.{admitted, sumAt, clamped, settle}
+use Rattle.rule.specs.Prediction.{admitted, sumAt}
 use Rattle.rule.proofs.Sums as sums
 use Rattle.rule.proofs.Sums.{Inside, Samples}
 
@@ -45,25 +41,3 @@ module _ {W : ℕ} {ws : List ℤ} {xs : List ℕ} {b s : ℤ} {i : ℕ} (ok : a
 
   pub turn : {z : ℤ} → z ≡ getD ws i (pos 0) *ℤ pos (getD xs i 0) → Summed ws xs b (s +ℤ z) (i + 1)
   turn {z} ez = record { at = omega arith; sum = rw ez next }
-
--- ---- what becomes of a sum, by its sign
-clamped-negative : (z : ℤ) → ltZ z (pos 0) ≡ true → clamped z ≡ 0
-clamped-negative (pos n) e = absurd (not-suc-le-zero (ltb-true n 0 e))
-clamped-negative (negsuc n) e = refl
-
-clamped-abs : (z : ℤ) → ltZ z (pos 0) ≡ false → natAbs z ≡ clamped z
-clamped-abs (pos n) e = refl
-clamped-abs (negsuc n) e = absurd (subst T e tt)
-
-pub not-negative : (z : ℤ) → ltZ z (pos 0) ≡ false → T (nonNeg z)
-not-negative (pos n) e = tt
-not-negative (negsuc n) e = subst T e tt
-
-module _ (W q : ℕ) (z : ℤ) where
-  pub settle-negative : ltZ z (pos 0) ≡ true → 0 ≡ settle W q z
-  unfolding settle
-  settle-negative t = sym (rw (clamped-negative z t, zero-div, zero-mod))
-
-  pub settle-shifted : ltZ z (pos 0) ≡ false → natAbs z / 2 ^ q % 2 ^ W ≡ settle W q z
-  unfolding settle
-  settle-shifted t = rw (clamped-abs z t)

@@ -9,3 +9,4 @@ pub mod encoding_32;
 pub mod encoding_by_value_32;
 pub mod order_six_32;
 pub mod prediction_32;
+pub mod settling_32;
