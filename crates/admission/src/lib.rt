@@ -59,10 +59,10 @@ pub fn coding_answer(
     if !limits::is_shift(width, shift) {
         return Answer::BadShift;
     }
-    if !limits::is_length(order, SampleCount(weights.len())) {
+    if weights.len() != order.0 {
         return Answer::BadLength;
     }
-    if !limits::is_length(order, state) {
+    if state.0 != order.0 {
         return Answer::BadLength;
     }
     if !is_admitted(width, bias, weights) {

@@ -1,7 +1,6 @@
 // The lengths of byte slices, at any width: which of them hold whole entries, and the tests that need nothing but lengths.
 use kinds::Answer;
 use kinds::Order;
-use kinds::SampleCount;
 use kinds::Shift;
 use kinds::Width;
 ghost use mathlib.Core.Path.{_≡_};
@@ -55,7 +54,7 @@ pub fn layout_answer(
     if !is_whole(samples, bytes) {
         return Answer::BadLength;
     }
-    if !limits::is_length(order, SampleCount(weights / 4)) {
+    if weights / 4 != order.0 {
         return Answer::BadLength;
     }
     Answer::Done

@@ -1,10 +1,8 @@
 // The numbers of a width, and the tests of a configuration that look at one number alone.
 use kinds::Order;
-use kinds::SampleCount;
 use kinds::Shift;
 use kinds::Width;
 ghost use mathlib.Core.Path.{_≡_};
-ghost use lib.Dec.{eqb};
 ghost use lib.IntN.{natAbs};
 ghost use Rattle.kinds.specs.Widths.{bitsOf};
 ghost use Rattle.rule.specs.Numbers.{greatest, accumulator, limit};
@@ -63,11 +61,4 @@ pub fn is_shift(width: Width, shift: Shift) -> bool
     ensures { λ r. ⌜ r ≡ shiftFits (bitsOf width) (shift .0) ⌝ }
 {
     shift.0 < accumulator_bits(width)
-}
-
-// Test 4, of a weight slice or of a state, by the number of its entries.
-pub fn is_length(order: Order, count: SampleCount) -> bool
-    ensures { λ r. ⌜ r ≡ eqb (count .0) (order .0) ⌝ }
-{
-    count.0 == order.0
 }

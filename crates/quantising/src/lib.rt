@@ -2,7 +2,6 @@
 // cut of step 5 are worked out in whole numbers.
 use kinds::Answer;
 use kinds::Order;
-use kinds::SampleCount;
 use kinds::Shift;
 use kinds::Width;
 use rounding::Whole;
@@ -163,7 +162,7 @@ fn quantise(width: Width, fitted: Fitted, centre: u32, weights: &mut [i32]) -> Q
     if !limits::is_order(order) {
         return refused(Answer::BadOrder);
     }
-    if !limits::is_length(order, SampleCount(weights.len())) {
+    if weights.len() != order.0 {
         return refused(Answer::BadLength);
     }
     let floats = fitted.weights;

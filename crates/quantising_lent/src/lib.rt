@@ -23,7 +23,7 @@ fn fitted_answer(order: Order, count: SampleCount) -> Answer
     if !limits::is_order(order) {
         return Answer::BadOrder;
     }
-    if !limits::is_length(order, count) {
+    if count.0 != order.0 {
         return Answer::BadLength;
     }
     Answer::Done

@@ -110,7 +110,7 @@ fn conv1_answer(order: Order, weights: SampleCount) -> Answer
     if !limits::is_order(order) {
         return Answer::BadOrder;
     }
-    if !limits::is_length(order, weights) {
+    if weights.0 != order.0 {
         return Answer::BadLength;
     }
     Answer::Done

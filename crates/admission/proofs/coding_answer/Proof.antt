@@ -2,7 +2,7 @@
 use mathlib.Core.Path.{_≡_, sym, _∙_}
 use mathlib.Core.Bool.{true}
 use borrow.Author.Needs.{needs}
-use borrow.Author.Tests.{not-true, not-false}
+use borrow.Author.Tests.{not-true, not-false, eq-eqb, ne-eqb}
 use lib.Dec.{eqb}
 use lib.ListN.{length}
 use mir.Facts.{toZ-ofZ}
@@ -32,47 +32,41 @@ returns-2 c = simp (order-fits (c .before .before), sym (c .before .is-shift .en
 shift-fits : (c : tie.Else2) → let a = c .before .before .before .before .args in shiftFits (bitsOf (a .width)) (a .shift .0) ≡ true
 shift-fits c = sym (c .before .is-shift .ensures) ∙ not-false _ (c .if2 .left)
 
-is-length-requires : tie.Need-is-length-requires
-is-length-requires c κs = search needs
-
 returns-3 : tie.Need-returns-3
 unfolding codingRefusal
 returns-3 c =
-    simp (order-fits (c .before .before .before .before), shift-fits (c .before .before), sym (c .before .is-length .ensures) ∙ not-true _ (c .if3 .taken))
+    simp (order-fits (c .before .before .before .before), shift-fits (c .before .before), ne-eqb _ _ (c .if3 .taken))
 
 weights-fit : (c : tie.Else3) → let a = c .before .before .before .before .before .before .args in eqb (length (a .weights .now)) (a .order .0) ≡ true
-weights-fit c = sym (c .before .is-length .ensures) ∙ not-false _ (c .if3 .left)
-
-is-length-requires-2 : tie.Need-is-length-requires-2
-is-length-requires-2 c κs = search needs
+weights-fit c = eq-eqb _ _ (c .if3 .left)
 
 returns-4 : tie.Need-returns-4
 unfolding codingRefusal
 returns-4 c =
     simp (
-      order-fits (c .before .before .before .before .before .before),
-      shift-fits (c .before .before .before .before),
-      weights-fit (c .before .before),
-      sym (c .before .is-length2 .ensures) ∙ not-true _ (c .if4 .taken),
+      order-fits (c .before .before .before .before .before .before .before),
+      shift-fits (c .before .before .before .before .before),
+      weights-fit (c .before .before .before),
+      ne-eqb _ _ (c .if4 .taken),
     )
 
-state-fits : (c : tie.Else4) → let a = c .before .before .before .before .before .before .before .before .args in eqb (a .state .0) (a .order .0) ≡ true
-state-fits c = sym (c .before .is-length2 .ensures) ∙ not-false _ (c .if4 .left)
+state-fits : (c : tie.Else4) → let a = c .before .before .before .before .before .before .before .before .before .args in eqb (a .state .0) (a .order .0) ≡ true
+state-fits c = eq-eqb _ _ (c .if4 .left)
 
 is-admitted-requires : tie.Need-is-admitted-requires
 is-admitted-requires c κs = search needs
 
 -- what the accumulator test said, of the bias itself and not of its bits
-rule-said : (c : tie.After-is-admitted) → let a = c .before .before .before .before .before .before .before .before .before .args in c .is-admitted .result ≡ admitted (bitsOf (a .width)) (a .bias) (a .weights .now)
-rule-said c = rw (toZ-ofZ (c .before .before .before .before .before .before .before .before .before .fits .bias)) at (c .is-admitted .ensures)
+rule-said : (c : tie.After-is-admitted) → let a = c .before .before .before .before .before .before .before .before .before .before .args in c .is-admitted .result ≡ admitted (bitsOf (a .width)) (a .bias) (a .weights .now)
+rule-said c = rw (toZ-ofZ (c .before .before .before .before .before .before .before .before .before .before .fits .bias)) at (c .is-admitted .ensures)
 
 returns-5 : tie.Need-returns-5
 unfolding codingRefusal
 returns-5 c =
     simp (
-      order-fits (c .before .before .before .before .before .before .before .before),
-      shift-fits (c .before .before .before .before .before .before),
-      weights-fit (c .before .before .before .before),
+      order-fits (c .before .before .before .before .before .before .before .before .before),
+      shift-fits (c .before .before .before .before .before .before .before),
+      weights-fit (c .before .before .before .before .before),
       state-fits (c .before .before),
       sym (rule-said (c .before)) ∙ not-true _ (c .if5 .taken),
     )
@@ -81,9 +75,9 @@ returns-6 : tie.Need-returns-6
 unfolding codingRefusal
 returns-6 c =
     simp (
-      order-fits (c .before .before .before .before .before .before .before .before),
-      shift-fits (c .before .before .before .before .before .before),
-      weights-fit (c .before .before .before .before),
+      order-fits (c .before .before .before .before .before .before .before .before .before),
+      shift-fits (c .before .before .before .before .before .before .before),
+      weights-fit (c .before .before .before .before .before),
       state-fits (c .before .before),
       sym (rule-said (c .before)) ∙ not-false _ (c .if5 .left),
     )
@@ -96,9 +90,7 @@ coding-answer-spec =
     returns
     is-shift-requires
     returns-2
-    is-length-requires
     returns-3
-    is-length-requires-2
     returns-4
     is-admitted-requires
     returns-5

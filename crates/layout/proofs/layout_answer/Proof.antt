@@ -3,7 +3,7 @@ use mathlib.Core.Path.{_≡_, sym, _∙_}
 use mathlib.Core.Bool.{true}
 use Prim.Native.Nat.{_/_, _%_}
 use borrow.Author.Needs.{needs}
-use borrow.Author.Tests.{not-true, not-false}
+use borrow.Author.Tests.{not-true, not-false, eq-eqb, ne-eqb}
 use lib.Dec.{eqb}
 use Rattle.kinds.specs.Widths.{bitsOf}
 use Rattle.rule.specs.Refusals.{orderFits, shiftFits}
@@ -69,9 +69,6 @@ returns-5 c =
 samples-whole : (c : tie.Else5) → let a = c .before .before .before .before .before .before .before .before .before .before .before .args in eqb (a .samples % (bitsOf (a .width) / 8)) 0 ≡ true
 samples-whole c = sym (rw (c .before .before .before .before .sample-bytes .ensures) at (c .before .is-whole3 .ensures)) ∙ not-false _ (c .if5 .left)
 
-is-length-requires : tie.Need-is-length-requires
-is-length-requires c κs = search needs
-
 returns-6 : tie.Need-returns-6
 unfolding layoutRefusal
 returns-6 c =
@@ -81,7 +78,7 @@ returns-6 c =
       weights-whole (c .before .before .before .before .before .before .before),
       state-whole (c .before .before .before .before),
       samples-whole (c .before .before),
-      sym (c .before .is-length .ensures) ∙ not-true _ (c .if6 .taken),
+      ne-eqb _ _ (c .if6 .taken),
     )
 
 returns-7 : tie.Need-returns-7
@@ -93,7 +90,7 @@ returns-7 c =
       weights-whole (c .before .before .before .before .before .before .before),
       state-whole (c .before .before .before .before),
       samples-whole (c .before .before),
-      sym (c .before .is-length .ensures) ∙ not-false _ (c .if6 .left),
+      eq-eqb _ _ (c .if6 .left),
     )
 
 pub layout-answer-spec : {M : Type 1} → statement M
@@ -111,6 +108,5 @@ layout-answer-spec =
     returns-4
     is-whole-requires-3
     returns-5
-    is-length-requires
     returns-6
     returns-7)

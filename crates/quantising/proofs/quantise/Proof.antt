@@ -4,10 +4,11 @@ use mathlib.Core.Bool.{true, cond}
 use mathlib.Core.List.{List}
 use Prim.Native.Nat.{ℕ, _≤_}
 use borrow.Author.Needs.{needs}
-use lib.Dec.{eqb, eqb→eq}
+use borrow.Author.Tests.{eq-eqb, ne-eqb}
+use lib.Dec.{eqb}
 use lib.IntN.{ℤ}
 use lib.ListN.{length, take}
-use Rattle.floats.proofs.Compared.{yes, not-was-true, not-was-false}
+use Rattle.floats.proofs.Compared.{not-was-true, not-was-false}
 use Rattle.kinds.specs.Widths.{bitsOf}
 use Rattle.rule.proofs.Passing.{order-few}
 use Rattle.rule.specs.Refusals.{orderFits}
@@ -43,10 +44,10 @@ module _ (c : tie.Else1) where
   order-small = order-few (k start) order-holds
 
 length-holds : (c : tie.Else2) → eqb (length (entry (start (c .before .before)))) (k (start (c .before .before))) ≡ true
-length-holds c = sym (c .before .is-length .ensures) ∙ not-was-false _ (c .if2 .left)
+length-holds c = eq-eqb _ _ (c .if2 .left)
 
 lengths-agree : (c : tie.Else2) → length (entry (start (c .before .before))) ≡ k (start (c .before .before))
-lengths-agree c = eqb→eq _ _ (yes (length-holds c))
+lengths-agree c = c .if2 .left
 
 is-order-requires : tie.Need-is-order-requires
 is-order-requires c κs = search needs
@@ -61,9 +62,6 @@ returns c =
     let l = bad-order (W s) (s .args .fitted) (s .args .centre) (entry s) (sym (t .before .is-order .ensures) ∙ not-was-true _ (t .if1 .taken)) in
     (c .refused .ensures ∙ l .back, l .left)
 
-is-length-requires : tie.Need-is-length-requires
-is-length-requires c κs = search needs
-
 refused-requires-2 : tie.Need-refused-requires-2
 refused-requires-2 c κs = search needs
 
@@ -72,7 +70,7 @@ returns-2 c =
     let t = c .before in
     let e = t .before .before in
     let s = start e in
-    let l = bad-length (W s) (s .args .fitted) (s .args .centre) (entry s) (order-holds e) (sym (t .before .is-length .ensures) ∙ not-was-true _ (t .if2 .taken)) in
+    let l = bad-length (W s) (s .args .fitted) (s .args .centre) (entry s) (order-holds e) (ne-eqb _ _ (t .if2 .taken)) in
     (c .refused2 .ensures ∙ l .back, l .left)
 
 configure-requires : tie.Need-configure-requires
@@ -109,7 +107,6 @@ quantise-spec =
     is-order-requires
     refused-requires
     returns
-    is-length-requires
     refused-requires-2
     returns-2
     configure-requires
