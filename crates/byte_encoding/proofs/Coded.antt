@@ -122,78 +122,92 @@ module _ (W k : ℕ) (p : List ℕ → ℕ) (xs : List ℕ) where
       rw sub-zero at (encoded-part 0 end inside 0 (omega arith) (λ early. refl))
 
 -- ---- one chunk: the samples from `from` on are loaded, m of them; all but the first `skip` are coded
-module _ (W n k : ℕ) (p : List ℕ → ℕ) (bytes : List ℕ) (some : 0 < n) (whole : length bytes ≡ n * (length bytes / n))
-    (from m skip start : ℕ) (begins : from + skip ≡ start) (ends : from + m ≡ length bytes / n) (near : skip ≤ m) (reaches : skip < k → from ≡ 0)
-  where
-    abbrev xs : List ℕ
-    xs = entries n bytes
+pub record Piece (n k : ℕ) (bytes : List ℕ) (from m skip start : ℕ) : Type 0 where
+  pub some : 0 < n
+  pub whole : length bytes ≡ n * (length bytes / n)
+  pub begins : from + skip ≡ start
+  pub ends : from + m ≡ length bytes / n
+  pub near : skip ≤ m
+  pub reaches : skip < k → from ≡ 0
 
-    abbrev ys : List ℕ
-    ys = take m (drop from xs)
+module _ {n k : ℕ} {bytes : List ℕ} {from m skip start : ℕ} (c : Piece n k bytes from m skip start) where
+  open Piece c using (some, whole, begins, ends, near, reaches)
 
-    abbrev lent : List ℕ
-    lent = take (length bytes - n * from) (drop (n * from) bytes)
+  abbrev xs : List ℕ
+  xs = entries n bytes
 
-    abbrev left : List ℕ
-    left = take (length bytes - n * start) (drop (n * start) bytes)
+  abbrev ys : List ℕ
+  ys = take m (drop from xs)
 
-    split : n * from + n * m ≡ length bytes
-    split = sym (mul-add n from m) ∙ ap (λ (z : ℕ). n * z) ends ∙ sym whole
+  abbrev lent : List ℕ
+  lent = take (length bytes - n * from) (drop (n * from) bytes)
 
-    lent-is : lent ≡ take (n * m) (drop (n * from) bytes)
-    lent-is =
-        let size : length bytes - n * from ≡ n * m = omega (arith, split) in
-        rw size
+  abbrev left : List ℕ
+  left = take (length bytes - n * start) (drop (n * start) bytes)
 
-    lent-long : length lent ≡ n * m
-    lent-long = ap length lent-is ∙ length-take-le (n * m) (drop (n * from) bytes) (omega (arith, length-drop (n * from) bytes, split))
+  split : n * from + n * m ≡ length bytes
+  split = sym (mul-add n from m) ∙ ap (λ (z : ℕ). n * z) ends ∙ sym whole
 
-    pub lent-count : length lent / n ≡ m
-    lent-count = rw lent-long (mul-div-cancel-left m some)
+  lent-is : lent ≡ take (n * m) (drop (n * from) bytes)
+  lent-is =
+      let size : length bytes - n * from ≡ n * m = omega (arith, split) in
+      rw size
 
-    lent-entries : entries n lent ≡ ys
-    lent-entries = rw lent-is (lists.entries-part n some bytes from m (omega (arith, split)))
+  lent-long : length lent ≡ n * m
+  lent-long = ap length lent-is ∙ length-take-le (n * m) (drop (n * from) bytes) (omega (arith, length-drop (n * from) bytes, split))
 
-    pub ys-long : length ys ≡ m
-    ys-long = length-take-le m (drop from xs) (omega (arith, length-drop from xs, lists.length-entries n bytes, ends))
+  pub lent-count : length lent / n ≡ m
+  lent-count = rw lent-long (mul-div-cancel-left m some)
 
-    pub loaded-front : (room zeros : List ℕ) → room ≡ entries n lent ++ drop (length lent / n) zeros → take m room ≡ ys
-    loaded-front room zeros e = rw (e, lent-entries) (take-at ys (drop (length lent / n) zeros) m ys-long)
+  lent-entries : entries n lent ≡ ys
+  lent-entries = rw lent-is (lists.entries-part n some bytes from m (omega (arith, split)))
 
+  ys-long : length ys ≡ m
+  ys-long = length-take-le m (drop from xs) (omega (arith, length-drop from xs, lists.length-entries n bytes, ends))
+
+  pub loaded-front : (room zeros : List ℕ) → room ≡ entries n lent ++ drop (length lent / n) zeros → take m room ≡ ys
+  loaded-front room zeros e = rw (e, lent-entries) (take-at ys (drop (length lent / n) zeros) m ys-long)
+
+  pub loaded-long : (room zeros : List ℕ) → room ≡ entries n lent ++ drop (length lent / n) zeros → length (take m room) ≡ m
+  loaded-long room zeros e = ap length (loaded-front room zeros e) ∙ ys-long
+
+  rest : n * start + n * (m - skip) ≡ length bytes
+  rest =
+      let count : start + (m - skip) ≡ length bytes / n = omega (arith, begins, ends, near) in
+      sym (mul-add n start (m - skip)) ∙ ap (λ (z : ℕ). n * z) count ∙ sym whole
+
+  left-long : length left ≡ n * (m - skip)
+  left-long = simp (length-take, length-drop) (omega (arith, rest))
+
+  module _ (W : ℕ) (p : List ℕ → ℕ) where
     coded : drop skip (encodedBuffer W k p ys) ≡ drop start (encodedBuffer W k p xs)
     coded =
         encoded-part W k p xs from m (omega (arith, lists.length-entries n bytes, ends)) skip near reaches
         ∙ rw begins (take-all (m - skip) (drop start (encodedBuffer W k p xs)) (omega (arith, length-drop start (encodedBuffer W k p xs), length-encoded W k p xs, lists.length-entries n bytes, ends, begins)))
 
-    rest : n * start + n * (m - skip) ≡ length bytes
-    rest =
-        let count : start + (m - skip) ≡ length bytes / n = omega (arith, begins, ends, near) in
-        sym (mul-add n start (m - skip)) ∙ ap (λ (z : ℕ). n * z) count ∙ sym whole
-
-    left-long : length left ≡ n * (m - skip)
-    left-long = simp (length-take, length-drop) (omega (arith, rest))
-
-    module _ (out : List ℕ) (out-is : out ≡ encodedBuffer W k p ys) where
-      pub out-long : length out ≡ m
+    module _ {out : List ℕ} (out-is : out ≡ encodedBuffer W k p ys) where
+      out-long : length out ≡ m
       out-long = ap length out-is ∙ length-encoded W k p ys ∙ ys-long
+
+      pub coded-within : (after : List ℕ) → m ≤ length (out ++ after)
+      coded-within after = rw length-append (omega (arith, out-long))
 
       kept-long : length (drop skip out) ≡ m - skip
       kept-long = length-drop skip out ∙ ap (λ (z : ℕ). z - skip) out-long
 
-      pub kept : (after : List ℕ) → take (m - skip) (drop skip (out ++ after)) ≡ drop skip out
+      kept : (after : List ℕ) → take (m - skip) (drop skip (out ++ after)) ≡ drop skip out
       kept after =
-          let h : skip ≤ length out = omega (arith, out-long) in
+          let h : skip ≤ length out = omega (arith, out-long, near) in
           rw (drop-append-le skip out after h) (take-at (drop skip out) after (m - skip) kept-long)
 
-      pub fits : n * length (drop skip out) ≤ length left
-      fits = rw (kept-long, left-long) (omega arith)
-
-      pub finished : (last : List ℕ) → last ≡ bytesOfAll n (drop skip out) ++ drop (n * length (drop skip out)) left
+      -- what is stored: the coded part of the room, over the rest of the bytes
+      pub finished : (after last : List ℕ)
+          → last ≡ bytesOfAll n (take (m - skip) (drop skip (out ++ after))) ++ drop (n * length (take (m - skip) (drop skip (out ++ after)))) left
           → putMid (n * start) (length bytes - n * start) bytes last ≡ take (n * start) bytes ++ bytesOfAll n (drop start (encodedBuffer W k p xs))
-      finished last e =
+      finished after last e =
           let past : length left ≤ n * length (drop skip out) = rw (kept-long, left-long) (omega arith) in
           let beyond : length (drop (n * start) bytes) ≤ length bytes - n * start = omega (arith, length-drop (n * start) bytes) in
-          rw (e, drop-of-length-le left past, append-nil, drop-of-length-le (drop (n * start) bytes) beyond, append-nil, out-is, coded)
+          rw (e, kept after, drop-of-length-le left past, append-nil, drop-of-length-le (drop (n * start) bytes) beyond, append-nil, out-is, coded)
 
 -- ---- the loop: from `end` on, bytes₀ is coded, and the chunk before that has k samples at least
 pub record Coding (W n k : ℕ) (p : List ℕ → ℕ) (bytes₀ bytes : List ℕ) (end : ℕ) : Type 0 where
