@@ -1,6 +1,7 @@
 -- Decoding bytes chunk by chunk, with the state between the chunks. Over the width W, the bytes n of an entry, the order k and any
 -- predictor p. Assumes nothing.
 use mathlib.Core.Path.{_≡_, refl, sym, ap, _∙_}
+use mathlib.Core.Bool.{true, false}
 use mathlib.Core.List.{List, [], _++_, append-assoc, append-nil}
 use Prim.Native.Nat.{ℕ, _+_, _-_, _*_, _/_, _≤_, _<_}
 use native.Mathlib.Nat.{mul-zero, mul-add, mul-le-mul-left}
@@ -8,27 +9,62 @@ use native.Mathlib.Omega.{arith}
 use lib.ListN.{length, take, drop, length-append, length-drop, drop-of-length-le}
 use lib.Seq.{take-at, drop-at, take-all, length-take-le, take-add, drop-drop}
 use borrow.Rule.Slice.PartMut.{putMid}
+use Rattle.kinds.specs.declared.Answer.{Answer}
+use Rattle.kinds.specs.Answers.{isDone, whenDone}
 use Rattle.rule.specs.Coding.{decodedPiece, newState}
+use Rattle.rule.specs.Refusals.{Config, codingRefusal}
 use Rattle.entries.specs.Entries.{entries, bytesOfAll}
 use Rattle.entries.proofs.Lists as lists
 use Rattle.extending.proofs.Extending as extending
+use Rattle.layout.specs.Bytes.{samplesIn, weightsIn, ragged, codingBytes}
+use Rattle.layout.specs.Lengths.{layoutRefusal}
+use Rattle.layout.proofs.Lengths as lengths
+
+-- ---- what a call did by its answer, once the answer is known
+pub as-done : (r : Answer) → isDone r ≡ true → (refused : List ℕ) {new done : List ℕ} → new ≡ done → new ≡ whenDone r done refused
+as-done r h refused e = rw h e
+
+pub as-refused : (r : Answer) → isDone r ≡ false → (done refused : List ℕ) → refused ≡ whenDone r done refused
+as-refused r h done refused = rw h
+
+-- ---- the answer over bytes: the lengths' tests decide first, and those of the entries behind them
+module _ (W : ℕ) (c : Config) (weights state samples : List ℕ) (read : c .weights ≡ weightsIn weights)
+    {early : Answer} (said : early ≡ layoutRefusal W (c .order) (c .shift) (length weights) (length state) (length samples))
+  where
+    parts : codingBytes W c (ragged W weights state samples) state ≡ whenDone early (codingRefusal W c (length (samplesIn W state))) early
+    parts = rw said (lengths.coding-parts W c weights state samples read)
+
+    pub refused-early : isDone early ≡ false → early ≡ codingBytes W c (ragged W weights state samples) state
+    refused-early h = sym (parts ∙ rw h)
+
+    pub decided-late : isDone early ≡ true → {r : Answer} → r ≡ codingRefusal W c (length (samplesIn W state)) → r ≡ codingBytes W c (ragged W weights state samples) state
+    decided-late h e = e ∙ sym (parts ∙ rw h)
 
 -- ---- one chunk: `piece` is loaded to the front of the room, decoded there, and stored again
-module _ (n : ℕ) (piece room : List ℕ) where
-  loaded-long : length (entries n piece) ≡ length piece / n
-  loaded-long = lists.length-entries n piece
+pub loaded-front : (n : ℕ) (piece room : List ℕ) {room₁ : List ℕ} → room₁ ≡ entries n piece ++ drop (length piece / n) room
+    → take (length piece / n) room₁ ≡ entries n piece
+loaded-front n piece room e =
+    rw e (take-at (entries n piece) (drop (length piece / n) room) (length piece / n) (lists.length-entries n piece))
 
-  pub loaded-front : {room₁ : List ℕ} → room₁ ≡ entries n piece ++ drop (length piece / n) room → take (length piece / n) room₁ ≡ entries n piece
-  loaded-front e = rw e (take-at (entries n piece) (drop (length piece / n) room) (length piece / n) loaded-long)
+-- `out` stands at the front of the room, and is what is stored
+module _ (k : ℕ) (out : List ℕ) (long : length out ≡ k) (rest : List ℕ) where
+  front : take k (out ++ rest) ≡ out
+  front = take-at out rest k long
 
-  pub stored-front : (out rest : List ℕ) → length out ≡ length piece / n → take (length piece / n) (out ++ rest) ≡ out
-  stored-front out rest e = take-at out rest (length piece / n) e
+  pub stored-within : k ≤ length (out ++ rest)
+  stored-within = rw length-append (omega (arith, long))
 
-  pub stored : (out : List ℕ) → length out ≡ length piece / n → length piece ≡ n * (length piece / n)
-      → bytesOfAll n out ++ drop (n * length out) piece ≡ bytesOfAll n out
-  stored out e whole =
-      let past : length piece ≤ n * length out = rw e (omega (arith, whole)) in
-      rw (drop-of-length-le piece past) (append-nil (bytesOfAll n out))
+  pub stored-long : k ≡ length (take k (out ++ rest))
+  stored-long = sym (ap length front ∙ long)
+
+  module _ (n : ℕ) (piece : List ℕ) (whole : length piece ≡ n * k) where
+    pub stored-fits : n * length (take k (out ++ rest)) ≤ length piece
+    stored-fits = rw (front, long) (omega (arith, whole))
+
+    pub stored : {new : List ℕ} → new ≡ bytesOfAll n (take k (out ++ rest)) ++ drop (n * length (take k (out ++ rest))) piece → new ≡ bytesOfAll n out
+    stored e =
+        let past : length piece ≤ n * length out = rw long (omega (arith, whole)) in
+        rw (e, front, drop-of-length-le piece past) (append-nil (bytesOfAll n out))
 
 -- ---- the loop, from state₀ and bytes₀: the outputs of the samples before `start`, and then the bytes that are left
 pub record Going (W n k : ℕ) (p : List ℕ → ℕ) (state₀ bytes₀ state bytes : List ℕ) (start : ℕ) : Type 0 where
@@ -38,96 +74,102 @@ pub record Going (W n k : ℕ) (p : List ℕ → ℕ) (state₀ bytes₀ state b
   pub outputs : bytes ≡ bytesOfAll n (decodedPiece W k p state₀ (take start (entries n bytes₀))) ++ drop (n * start) bytes₀
   pub next : state ≡ newState W k p state₀ (take start (entries n bytes₀))
 
-module _ (W n k : ℕ) (p : List ℕ → ℕ) (state₀ bytes₀ : List ℕ) (some : 0 < n) (full₀ : length state₀ ≡ k)
-    (whole : length bytes₀ ≡ n * (length bytes₀ / n))
-  where
-    abbrev xs : List ℕ
-    xs = entries n bytes₀
+-- what it starts from: k samples, and bytes that are whole entries
+pub record Begin (n k : ℕ) (state₀ bytes₀ : List ℕ) : Type 0 where
+  pub some : 0 < n
+  pub full₀ : length state₀ ≡ k
+  pub whole : length bytes₀ ≡ n * (length bytes₀ / n)
 
-    long : length xs ≡ length bytes₀ / n
-    long = lists.length-entries n bytes₀
+module _ (W : ℕ) {n k : ℕ} (p : List ℕ → ℕ) {state₀ bytes₀ : List ℕ} (begin : Begin n k state₀ bytes₀) where
+  open Begin begin using (some, full₀, whole)
 
-    pub begun : Going W n k p state₀ bytes₀ state₀ bytes₀ 0
-    unfolding decodedPiece newState
-    begun = record { within = omega arith; same = refl; full = full₀; outputs = rw mul-zero; next = refl }
+  abbrev xs : List ℕ
+  xs = entries n bytes₀
 
-    module _ {state bytes : List ℕ} {start : ℕ} (g : Going W n k p state₀ bytes₀ state bytes start) where
-      passed : length (bytesOfAll n (decodedPiece W k p state₀ (take start xs))) ≡ n * start
-      passed =
-          lists.length-bytes-all n (decodedPiece W k p state₀ (take start xs))
-          ∙ ap (λ (m : ℕ). n * m) (extending.length-decoded W k p state₀ (take start xs) full₀ ∙ length-take-le start xs (omega (arith, long, g .within)))
+  long : length xs ≡ length bytes₀ / n
+  long = lists.length-entries n bytes₀
 
-      ahead : drop (n * start) bytes ≡ drop (n * start) bytes₀
-      ahead = rw (g .outputs) (drop-at (bytesOfAll n (decodedPiece W k p state₀ (take start xs))) (drop (n * start) bytes₀) (n * start) passed)
+  pub begun : Going W n k p state₀ bytes₀ state₀ bytes₀ 0
+  unfolding decodedPiece newState
+  begun = record { within = omega arith; same = refl; full = full₀; outputs = rw mul-zero; next = refl }
 
-      behind : take (n * start) bytes ≡ bytesOfAll n (decodedPiece W k p state₀ (take start xs))
-      behind = rw (g .outputs) (take-at (bytesOfAll n (decodedPiece W k p state₀ (take start xs))) (drop (n * start) bytes₀) (n * start) passed)
+  module _ {state bytes : List ℕ} {start : ℕ} (g : Going W n k p state₀ bytes₀ state bytes start) where
+    passed : length (bytesOfAll n (decodedPiece W k p state₀ (take start xs))) ≡ n * start
+    passed =
+        lists.length-bytes-all n (decodedPiece W k p state₀ (take start xs))
+        ∙ ap (λ (m : ℕ). n * m) (extending.length-decoded W k p state₀ (take start xs) full₀ ∙ length-take-le start xs (omega (arith, long, g .within)))
 
-      -- the chunk from `start` to `end`
-      module _ (end : ℕ) (h : start ≤ end) (within : end ≤ length bytes₀ / n) where
-        to-end : start + (end - start) ≡ end
-        to-end = omega arith
+    ahead : drop (n * start) bytes ≡ drop (n * start) bytes₀
+    ahead = rw (g .outputs) (drop-at (bytesOfAll n (decodedPiece W k p state₀ (take start xs))) (drop (n * start) bytes₀) (n * start) passed)
 
-        pub far : n * end ≤ length bytes₀
-        far = rw whole (mul-le-mul-left n within)
+    behind : take (n * start) bytes ≡ bytesOfAll n (decodedPiece W k p state₀ (take start xs))
+    behind = rw (g .outputs) (take-at (bytesOfAll n (decodedPiece W k p state₀ (take start xs))) (drop (n * start) bytes₀) (n * start) passed)
 
-        pub wide : n * start + n * (end - start) ≡ n * end
-        wide = sym (mul-add n start (end - start)) ∙ ap (λ (m : ℕ). n * m) to-end
+    -- the chunk from `start` to `end`
+    module _ (end : ℕ) (h : start ≤ end) (within : end ≤ length bytes₀ / n) where
+      to-end : start + (end - start) ≡ end
+      to-end = omega arith
 
-        size : n * end - n * start ≡ n * (end - start)
-        size = omega (arith, wide)
+      pub far : n * end ≤ length bytes₀
+      far = rw whole (mul-le-mul-left n within)
 
-        pub chunk-long : length (take (n * end - n * start) (drop (n * start) bytes)) ≡ n * (end - start)
-        chunk-long = rw size (length-take-le (n * (end - start)) (drop (n * start) bytes) (omega (arith, length-drop (n * start) bytes, g .same, far, wide)))
+      pub wide : n * start + n * (end - start) ≡ n * end
+      wide = sym (mul-add n start (end - start)) ∙ ap (λ (m : ℕ). n * m) to-end
 
-        pub chunk-entries : entries n (take (n * end - n * start) (drop (n * start) bytes)) ≡ take (end - start) (drop start xs)
-        chunk-entries = rw (size, ahead) (lists.entries-part n some bytes₀ start (end - start) (omega (arith, wide, far)))
+      size : n * end - n * start ≡ n * (end - start)
+      size = omega (arith, wide)
 
-        more : take end xs ≡ take start xs ++ take (end - start) (drop start xs)
-        more = rw to-end at (take-add start (end - start) xs)
+      pub chunk-long : length (take (n * end - n * start) (drop (n * start) bytes)) ≡ n * (end - start)
+      chunk-long = rw size (length-take-le (n * (end - start)) (drop (n * start) bytes) (omega (arith, length-drop (n * start) bytes, g .same, far, wide)))
 
-        module _ (out next : List ℕ)
-            (out-is : out ≡ bytesOfAll n (decodedPiece W k p state (entries n (take (n * end - n * start) (drop (n * start) bytes)))))
-            (next-is : next ≡ newState W k p state (entries n (take (n * end - n * start) (drop (n * start) bytes))))
-          where
-            next-more : next ≡ newState W k p state₀ (take end xs)
-            next-more =
-                next-is
-                ∙ rw (chunk-entries, g .next, more) (sym (extending.state-more W k p state₀ (take start xs) full₀ (take (end - start) (drop start xs))))
+      pub chunk-entries : entries n (take (n * end - n * start) (drop (n * start) bytes)) ≡ take (end - start) (drop start xs)
+      chunk-entries = rw (size, ahead) (lists.entries-part n some bytes₀ start (end - start) (omega (arith, wide, far)))
 
-            outputs-more : putMid (n * start) (n * end - n * start) bytes out ≡ bytesOfAll n (decodedPiece W k p state₀ (take end xs)) ++ drop (n * end) bytes₀
-            outputs-more =
-                rw (
-                  behind,
-                  out-is,
-                  chunk-entries,
-                  ahead,
-                  g .next,
-                  drop-drop,
-                  size,
-                  wide,
-                  more,
-                  extending.decoded-more W k p state₀ (take start xs) full₀ (take (end - start) (drop start xs)),
-                  lists.bytes-append n,
-                )
-                (sym (append-assoc (bytesOfAll n (decodedPiece W k p state₀ (take start xs))) _ (drop (n * end) bytes₀)))
+      more : take end xs ≡ take start xs ++ take (end - start) (drop start xs)
+      more = rw to-end at (take-add start (end - start) xs)
 
-            pub turn : Going W n k p state₀ bytes₀ next (putMid (n * start) (n * end - n * start) bytes out) end
-            turn =
-                record {
-                  within = within;
-                  same =
-                      rw (outputs-more, length-append, lists.length-bytes-all n (decodedPiece W k p state₀ (take end xs)), extending.length-decoded W k p state₀ (take end xs) full₀, length-take-le end xs (omega (arith, long)), length-drop)
-                      (omega (arith, far));
-                  full = rw next-more (extending.length-state W k p state₀ (take end xs) full₀);
-                  outputs = outputs-more;
-                  next = next-more;
-                }
+      module _ (out next : List ℕ)
+          (out-is : out ≡ bytesOfAll n (decodedPiece W k p state (entries n (take (n * end - n * start) (drop (n * start) bytes)))))
+          (next-is : next ≡ newState W k p state (entries n (take (n * end - n * start) (drop (n * start) bytes))))
+        where
+          next-more : next ≡ newState W k p state₀ (take end xs)
+          next-more =
+              next-is
+              ∙ rw (chunk-entries, g .next, more) (sym (extending.state-more W k p state₀ (take start xs) full₀ (take (end - start) (drop start xs))))
 
-      pub ended : length bytes₀ / n ≤ start → (bytes ≡ bytesOfAll n (decodedPiece W k p state₀ xs)) × (state ≡ newState W k p state₀ xs)
-      ended past =
-          let e : start ≡ length bytes₀ / n = omega (arith, g .within) in
-          let all : take start xs ≡ xs = take-all start xs (omega (arith, long)) in
-          let far : length bytes₀ ≤ n * start = rw e (omega (arith, whole)) in
-          let none : drop (n * start) bytes₀ ≡ [] = drop-of-length-le bytes₀ far in
-          (g .outputs ∙ rw (all, none) (append-nil _), g .next ∙ rw all)
+          outputs-more : putMid (n * start) (n * end - n * start) bytes out ≡ bytesOfAll n (decodedPiece W k p state₀ (take end xs)) ++ drop (n * end) bytes₀
+          outputs-more =
+              rw (
+                behind,
+                out-is,
+                chunk-entries,
+                ahead,
+                g .next,
+                drop-drop,
+                size,
+                wide,
+                more,
+                extending.decoded-more W k p state₀ (take start xs) full₀ (take (end - start) (drop start xs)),
+                lists.bytes-append n,
+              )
+              (sym (append-assoc (bytesOfAll n (decodedPiece W k p state₀ (take start xs))) _ (drop (n * end) bytes₀)))
+
+          pub turn : Going W n k p state₀ bytes₀ next (putMid (n * start) (n * end - n * start) bytes out) end
+          turn =
+              record {
+                within = within;
+                same =
+                    rw (outputs-more, length-append, lists.length-bytes-all n (decodedPiece W k p state₀ (take end xs)), extending.length-decoded W k p state₀ (take end xs) full₀, length-take-le end xs (omega (arith, long)), length-drop)
+                    (omega (arith, far));
+                full = rw next-more (extending.length-state W k p state₀ (take end xs) full₀);
+                outputs = outputs-more;
+                next = next-more;
+              }
+
+    pub ended : length bytes₀ / n ≤ start → (bytes ≡ bytesOfAll n (decodedPiece W k p state₀ xs)) × (state ≡ newState W k p state₀ xs)
+    ended past =
+        let e : start ≡ length bytes₀ / n = omega (arith, g .within) in
+        let all : take start xs ≡ xs = take-all start xs (omega (arith, long)) in
+        let far : length bytes₀ ≤ n * start = rw e (omega (arith, whole)) in
+        let none : drop (n * start) bytes₀ ≡ [] = drop-of-length-le bytes₀ far in
+        (g .outputs ∙ rw (all, none) (append-nil _), g .next ∙ rw all)

@@ -178,10 +178,7 @@ pub fn decode(
     ensures { λ r. ⌜ now (piece .exit) ≡ whenDone r (samplesBytes 16 (decodedPiece 16 (order .0) (predictor 16 (config order shift bias (weightsIn (now (weights .entry))))) (samplesIn 16 (now (state .entry))) (samplesIn 16 (now (piece .entry))))) (now (piece .entry)) ⌝ }
     ensures { λ r. ⌜ now (state .exit) ≡ whenDone r (samplesBytes 16 (newState 16 (order .0) (predictor 16 (config order shift bias (weightsIn (now (weights .entry))))) (samplesIn 16 (now (state .entry))) (samplesIn 16 (now (piece .entry))))) (now (state .entry)) ⌝ }
 {
-    if order.0 == 6 {
-        return decode_by(true, order, shift, bias, weights, state, piece);
-    }
-    decode_by(false, order, shift, bias, weights, state, piece)
+    decode_by(order.0 == 6, order, shift, bias, weights, state, piece)
 }
 
 // The general way, at any order.
