@@ -1,7 +1,6 @@
 -- Decoding bytes chunk by chunk, with the state between the chunks. Over the width W, the bytes n of an entry, the order k and any
 -- predictor p. Assumes nothing.
 use mathlib.Core.Path.{_≡_, refl, sym, ap, _∙_}
-use mathlib.Core.Bool.{true, false}
 use mathlib.Core.List.{List, [], _++_, append-assoc, append-nil}
 use Prim.Native.Nat.{ℕ, _+_, _-_, _*_, _/_, _≤_, _<_}
 use native.Mathlib.Nat.{mul-zero, mul-add, mul-le-mul-left}
@@ -9,36 +8,10 @@ use native.Mathlib.Omega.{arith}
 use lib.ListN.{length, take, drop, length-append, length-drop, drop-of-length-le}
 use lib.Seq.{take-at, drop-at, take-all, length-take-le, take-add, drop-drop}
 use borrow.Rule.Slice.PartMut.{putMid}
-use Rattle.kinds.specs.declared.Answer.{Answer}
-use Rattle.kinds.specs.Answers.{isDone, whenDone}
 use Rattle.rule.specs.Coding.{decodedPiece, newState}
-use Rattle.rule.specs.Refusals.{Config, codingRefusal}
 use Rattle.entries.specs.Entries.{entries, bytesOfAll}
 use Rattle.entries.proofs.Lists as lists
 use Rattle.extending.proofs.Extending as extending
-use Rattle.layout.specs.Bytes.{samplesIn, weightsIn, ragged, codingBytes}
-use Rattle.layout.specs.Lengths.{layoutRefusal}
-use Rattle.layout.proofs.Lengths as lengths
-
--- ---- what a call did by its answer, once the answer is known
-pub as-done : (r : Answer) → isDone r ≡ true → (refused : List ℕ) {new done : List ℕ} → new ≡ done → new ≡ whenDone r done refused
-as-done r h refused e = rw h e
-
-pub as-refused : (r : Answer) → isDone r ≡ false → (done refused : List ℕ) → refused ≡ whenDone r done refused
-as-refused r h done refused = rw h
-
--- ---- the answer over bytes: the lengths' tests decide first, and those of the entries behind them
-module _ (W : ℕ) (c : Config) (weights state samples : List ℕ) (read : c .weights ≡ weightsIn weights)
-    {early : Answer} (said : early ≡ layoutRefusal W (c .order) (c .shift) (length weights) (length state) (length samples))
-  where
-    parts : codingBytes W c (ragged W weights state samples) state ≡ whenDone early (codingRefusal W c (length (samplesIn W state))) early
-    parts = rw said (lengths.coding-parts W c weights state samples read)
-
-    pub refused-early : isDone early ≡ false → early ≡ codingBytes W c (ragged W weights state samples) state
-    refused-early h = sym (parts ∙ rw h)
-
-    pub decided-late : isDone early ≡ true → {r : Answer} → r ≡ codingRefusal W c (length (samplesIn W state)) → r ≡ codingBytes W c (ragged W weights state samples) state
-    decided-late h e = e ∙ sym (parts ∙ rw h)
 
 -- ---- one chunk: `piece` is loaded to the front of the room, decoded there, and stored again
 pub loaded-front : (n : ℕ) (piece room : List ℕ) {room₁ : List ℕ} → room₁ ≡ entries n piece ++ drop (length piece / n) room

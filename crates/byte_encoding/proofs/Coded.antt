@@ -12,18 +12,14 @@ use borrow.Rule.Slice.PartMut.{putMid}
 use lib.Dec.{ltb}
 use lib.ListN.{length, getD, take, drop, length-append, length-take, length-drop, drop-of-length-le, take-append-drop}
 use lib.Seq.{take-nil, take-at, drop-at, take-all, take-take, drop-drop, drop-append-le, length-take-le, getD-take, getD-drop, ext-getD}
-use Rattle.kinds.specs.declared.Answer.{Answer}
 use Rattle.kinds.specs.declared.Answer.the-variants.{Done, TooFewSamples}
-use Rattle.kinds.specs.Answers.{refuse, isDone, whenDone}
+use Rattle.kinds.specs.Answers.{refuse, isDone}
 use Rattle.rule.specs.Coding.{window, codedAt, encodedBuffer}
 use Rattle.rule.specs.Refusals.{Config, codingRefusal, encodingRefusal}
 use Rattle.rule.proofs.Filling.{length-tabulate, getD-tabulate}
 use Rattle.entries.specs.Entries.{entries, bytesOfAll}
 use Rattle.entries.proofs.Bytes.{Bytes, take-bytes}
 use Rattle.entries.proofs.Lists as lists
-use Rattle.layout.specs.Bytes.{samplesIn, weightsIn, ragged, encodingBytes}
-use Rattle.layout.specs.Lengths.{layoutRefusal}
-use Rattle.layout.proofs.Lengths as lengths
 
 pub encoding-allowed : (W : ℕ) (c : Config) (state n : ℕ) → isDone (codingRefusal W c state) ≡ true → c .order ≤ n → isDone (encodingRefusal W c state n) ≡ true
 unfolding encodingRefusal
@@ -37,24 +33,6 @@ coding-allowed W c state n h = go (isDone (codingRefusal W c state)) refl h
     go : (t : Bool) → isDone (codingRefusal W c state) ≡ t → isDone (cond t (refuse (ltb n (c .order)) TooFewSamples Done) (codingRefusal W c state)) ≡ true → isDone (codingRefusal W c state) ≡ true
     go true e h = e
     go false e h = h
-
--- ---- what a call did, and its answer over bytes: the lengths' tests decide first, and those of the entries behind them
-pub as-refused : (r : Answer) → isDone r ≡ false → (done refused : List ℕ) → refused ≡ whenDone r done refused
-as-refused r h done refused = rw h
-
-module _ (W : ℕ) (c : Config) (weights state samples : List ℕ) (read : c .weights ≡ weightsIn weights)
-    {early : Answer} (said : early ≡ layoutRefusal W (c .order) (c .shift) (length weights) (length state) (length samples))
-  where
-    parts : encodingBytes W c (ragged W weights state samples) state samples
-        ≡ whenDone early (encodingRefusal W c (length (samplesIn W state)) (length (samplesIn W samples))) early
-    parts = rw said (lengths.encoding-parts W c weights state samples read)
-
-    pub refused-early : isDone early ≡ false → early ≡ encodingBytes W c (ragged W weights state samples) state samples
-    refused-early h = sym (parts ∙ rw h)
-
-    pub decided-late : isDone early ≡ true → {r : Answer} → r ≡ encodingRefusal W c (length (samplesIn W state)) (length (samplesIn W samples))
-        → r ≡ encodingBytes W c (ragged W weights state samples) state samples
-    decided-late h e = e ∙ sym (parts ∙ rw h)
 
 -- the bytes of the first k samples are the first bytes
 pub front-entries : (n : ℕ) → 0 < n → (bytes : List ℕ) (k : ℕ) → n * k ≤ length bytes → entries n (take (n * k) bytes) ≡ take k (entries n bytes)

@@ -1,6 +1,6 @@
 -- The tests that the byte lengths decide, and those of the entries behind them, together are the refusal of a call over bytes.
 -- Assumes nothing.
-use mathlib.Core.Path.{_≡_, refl, ap, _∙_}
+use mathlib.Core.Path.{_≡_, refl, sym, ap, _∙_}
 use mathlib.Core.Bool.{Bool, true, false, not, _&&_, false≢true}
 use mathlib.Core.List.{List, _++_}
 use Prim.Native.Nat.{ℕ, _*_, _/_, _%_, _<_, _≤_}
@@ -98,6 +98,12 @@ encoding-go true true false l r a few = refl
 encoding-go true false w l r a few = refl
 encoding-go false s w l r a few = refl
 
+refused-early : (early late : Answer) {whole : Answer} → whole ≡ whenDone early late early → isDone early ≡ false → early ≡ whole
+refused-early early late parts h = sym (parts ∙ rw h)
+
+decided-late : (early late : Answer) {whole : Answer} → whole ≡ whenDone early late early → isDone early ≡ true → {r : Answer} → r ≡ late → r ≡ whole
+decided-late early late parts h e = e ∙ sym (parts ∙ rw h)
+
 module _ (W : ℕ) (c : Config) (weights state samples : List ℕ) (read : c .weights ≡ weightsIn weights) where
   count : length (c .weights) ≡ length weights / 4
   count = ap length read ∙ length-weights weights
@@ -105,14 +111,35 @@ module _ (W : ℕ) (c : Config) (weights state samples : List ℕ) (read : c .we
   abbrev layout : Answer
   layout = layoutRefusal W (c .order) (c .shift) (length weights) (length state) (length samples)
 
-  pub coding-parts : codingBytes W c (ragged W weights state samples) state ≡ whenDone layout (codingRefusal W c (length (samplesIn W state))) layout
+  coding-split : codingBytes W c (ragged W weights state samples) state ≡ whenDone layout (codingRefusal W c (length (samplesIn W state))) layout
   unfolding codingBytes codingRefusal layoutRefusal
-  coding-parts =
+  coding-split =
       rw (← count)
       (coding-go (orderFits (c .order)) (shiftFits W (c .shift)) (isWhole 4 weights && (isWhole (W / 8) state && isWhole (W / 8) samples)) (eqb (length (c .weights)) (c .order)) (eqb (length (samplesIn W state)) (c .order)) (admitted W (c .bias) (c .weights)))
 
-  pub encoding-parts : encodingBytes W c (ragged W weights state samples) state samples ≡ whenDone layout (encodingRefusal W c (length (samplesIn W state)) (length (samplesIn W samples))) layout
+  encoding-split : encodingBytes W c (ragged W weights state samples) state samples ≡ whenDone layout (encodingRefusal W c (length (samplesIn W state)) (length (samplesIn W samples))) layout
   unfolding encodingBytes encodingRefusal codingRefusal layoutRefusal
-  encoding-parts =
+  encoding-split =
       rw (← count)
       (encoding-go (orderFits (c .order)) (shiftFits W (c .shift)) (isWhole 4 weights && (isWhole (W / 8) state && isWhole (W / 8) samples)) (eqb (length (c .weights)) (c .order)) (eqb (length (samplesIn W state)) (c .order)) (admitted W (c .bias) (c .weights)) (ltb (length (samplesIn W samples)) (c .order)))
+
+  -- `early` is what the lengths' tests answered
+  module _ {early : Answer} (said : early ≡ layout) where
+    pub coding-refused : isDone early ≡ false → early ≡ codingBytes W c (ragged W weights state samples) state
+    coding-refused = refused-early early (codingRefusal W c (length (samplesIn W state))) (rw said coding-split)
+
+    pub coding-late : isDone early ≡ true → {r : Answer} → r ≡ codingRefusal W c (length (samplesIn W state)) → r ≡ codingBytes W c (ragged W weights state samples) state
+    coding-late = decided-late early _ (rw said coding-split)
+
+    pub encoding-refused : isDone early ≡ false → early ≡ encodingBytes W c (ragged W weights state samples) state samples
+    encoding-refused = refused-early early (encodingRefusal W c (length (samplesIn W state)) (length (samplesIn W samples))) (rw said encoding-split)
+
+    pub encoding-late : isDone early ≡ true → {r : Answer} → r ≡ encodingRefusal W c (length (samplesIn W state)) (length (samplesIn W samples)) → r ≡ encodingBytes W c (ragged W weights state samples) state samples
+    encoding-late = decided-late early _ (rw said encoding-split)
+
+-- ---- what a call leaves, once its answer is known
+pub as-done : (r : Answer) → isDone r ≡ true → (refused : List ℕ) {new done : List ℕ} → new ≡ done → new ≡ whenDone r done refused
+as-done r h refused e = rw h e
+
+pub as-refused : (r : Answer) → isDone r ≡ false → (done refused : List ℕ) → refused ≡ whenDone r done refused
+as-refused r h done refused = rw h
