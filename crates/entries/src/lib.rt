@@ -1,10 +1,4 @@
-// Little-endian entries of a byte slice: one reader and one writer for every width up to eight bytes, and above them the unsigned
-// entries of each width (`w16` is the source of the other two: tools/widths) and the signed ones.
-pub mod signed;
-pub mod w16;
-pub mod w32;
-pub mod w8;
-
+// One little-endian entry of a byte slice, read and written, of any width up to eight bytes.
 ghost use mathlib.Core.Path.{_≡_};
 ghost use Prim.Native.Nat.{_+_, _%_, _≤_, _<_};
 ghost use lib.ListN.{length};
@@ -23,7 +17,7 @@ fn low(value: u64) -> u8
 }
 
 // The entry in the `width` bytes from place `at` on, read from its last byte, the most significant, to its first.
-fn read_entry(bytes: &[u8], at: usize, width: usize) -> u64
+pub fn read_entry(bytes: &[u8], at: usize, width: usize) -> u64
     requires { ⌜ (at + width ≤ length (now bytes)) × (width ≤ 8) ⌝ }
     ensures { λ r. ⌜ r ≡ entryAt width (now (bytes .entry)) at ⌝ }
 {
@@ -37,7 +31,7 @@ fn read_entry(bytes: &[u8], at: usize, width: usize) -> u64
 }
 
 // Writes the low `width` bytes of the value from place `at` on, and no other byte.
-fn write_entry(bytes: &mut [u8], at: usize, width: usize, value: u64)
+pub fn write_entry(bytes: &mut [u8], at: usize, width: usize, value: u64)
     requires { ⌜ at + width ≤ length (now bytes) ⌝ }
     ensures { λ _. ⌜ now (bytes .exit) ≡ withEntry width (now (bytes .entry)) at value ⌝ }
 {

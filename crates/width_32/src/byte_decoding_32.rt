@@ -57,9 +57,9 @@ fn decode_chunk(
     ensures { λ _. ⌜ now (state .exit) ≡ newState 32 (order .0) (predictor 32 (config order shift bias (now (weights .entry)))) (now (state .entry)) (samplesIn 32 (now (piece .entry))) ⌝ }
 {
     let n = piece.len() / BYTES;
-    entries::w32::load(piece, room);
+    crate::sample_entries_32::load(piece, room);
     decode_samples(fast, order, shift, bias, weights, state, &mut room[..n]);
-    entries::w32::store(&room[..n], piece);
+    crate::sample_entries_32::store(&room[..n], piece);
 }
 
 // Chunk after chunk, each from the state that the one before it left.
@@ -127,9 +127,9 @@ fn decode_whole(
     }
     let k = order.0;
     let mut held: [u32; 32] = [0; 32];
-    entries::w32::load(state, &mut held);
+    crate::sample_entries_32::load(state, &mut held);
     decode_chunks(fast, order, shift, bias, weights, &mut held[..k], piece);
-    entries::w32::store(&held[..k], state);
+    crate::sample_entries_32::store(&held[..k], state);
     answer
 }
 
@@ -161,7 +161,7 @@ fn decode_by(
     }
     let k = order.0;
     let mut numbers: [i32; 32] = [0; 32];
-    entries::signed::load_i32(weights, &mut numbers);
+    signed_entries::load_i32(weights, &mut numbers);
     decode_whole(fast, order, shift, bias, &numbers[..k], state, piece)
 }
 

@@ -9,4 +9,5 @@ pub mod encoding_32;
 pub mod encoding_by_value_32;
 pub mod order_six_32;
 pub mod prediction_32;
+pub mod sample_entries_32;
 pub mod settling_32;

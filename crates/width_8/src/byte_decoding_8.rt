@@ -57,9 +57,9 @@ fn decode_chunk(
     ensures { λ _. ⌜ now (state .exit) ≡ newState 8 (order .0) (predictor 8 (config order shift bias (now (weights .entry)))) (now (state .entry)) (samplesIn 8 (now (piece .entry))) ⌝ }
 {
     let n = piece.len() / BYTES;
-    entries::w8::load(piece, room);
+    crate::sample_entries_8::load(piece, room);
     decode_samples(fast, order, shift, bias, weights, state, &mut room[..n]);
-    entries::w8::store(&room[..n], piece);
+    crate::sample_entries_8::store(&room[..n], piece);
 }
 
 // Chunk after chunk, each from the state that the one before it left.
@@ -127,9 +127,9 @@ fn decode_whole(
     }
     let k = order.0;
     let mut held: [u8; 32] = [0; 32];
-    entries::w8::load(state, &mut held);
+    crate::sample_entries_8::load(state, &mut held);
     decode_chunks(fast, order, shift, bias, weights, &mut held[..k], piece);
-    entries::w8::store(&held[..k], state);
+    crate::sample_entries_8::store(&held[..k], state);
     answer
 }
 
@@ -161,7 +161,7 @@ fn decode_by(
     }
     let k = order.0;
     let mut numbers: [i32; 32] = [0; 32];
-    entries::signed::load_i32(weights, &mut numbers);
+    signed_entries::load_i32(weights, &mut numbers);
     decode_whole(fast, order, shift, bias, &numbers[..k], state, piece)
 }
 

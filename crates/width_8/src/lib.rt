@@ -9,4 +9,5 @@ pub mod encoding_8;
 pub mod encoding_by_value_8;
 pub mod order_six_8;
 pub mod prediction_8;
+pub mod sample_entries_8;
 pub mod settling_8;
