@@ -179,6 +179,12 @@ module _ {n k : ℕ} {bytes : List ℕ} {from m skip start : ℕ} (c : Piece n k
   left-long : length left ≡ n * (m - skip)
   left-long = simp (length-take, length-drop) (omega (arith, rest))
 
+  -- what is coded has room where it goes
+  pub store-fits : (room : List ℕ) → n * length (take (m - skip) (drop skip room)) ≤ length left
+  store-fits room =
+      let short : length (take (m - skip) (drop skip room)) ≤ m - skip = rw length-take (omega arith) in
+      rw left-long (mul-le-mul-left n short)
+
   module _ (W : ℕ) (p : List ℕ → ℕ) where
     coded : drop skip (encodedBuffer W k p ys) ≡ drop start (encodedBuffer W k p xs)
     coded =
