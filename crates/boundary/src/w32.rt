@@ -19,7 +19,7 @@ ghost use Rattle.quantising_lent.specs.Calls.{quantisedFrom, filledFrom};
 pub extern "C" fn claspotter_admits_32(bias: i64, weights: &[i32]) -> u32
     ensures { λ r. ⌜ r ≡ numberOf (refuse (not (admitted 32 bias (now (weights .entry)))) Overflows Done) ⌝ }
 {
-    if admission::is_admitted(Width::ThirtyTwo, bias, weights) {
+    if accumulator::is_admitted(Width::ThirtyTwo, bias, weights) {
         return kinds::number(Answer::Done);
     }
     kinds::number(Answer::Overflows)

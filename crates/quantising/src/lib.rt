@@ -105,7 +105,7 @@ fn configure(
         return no_configuration();
     };
     let whole = rounded.weights;
-    if !admission::is_admitted(width, bias, &whole[..order]) {
+    if !accumulator::is_admitted(width, bias, &whole[..order]) {
         return no_configuration();
     }
     Configuration {

@@ -1,8 +1,9 @@
 -- Test 5 comes after the others, and only where they pass. Assumes nothing.
 use mathlib.Core.Path.{_≡_, sym, _∙_}
-use mathlib.Core.Bool.{true}
+use mathlib.Core.Bool.{true, false}
 use borrow.Author.Needs.{needs}
 use borrow.Author.Tests.{not-true, not-false, lt-ltb, le-ltb}
+use lib.Dec.{ltb}
 use mir.Facts.{toZ-ofZ}
 use Rattle.kinds.specs.Widths.{bitsOf}
 use Rattle.kinds.specs.Answers.{isDone}
@@ -29,11 +30,17 @@ passed c = sym (c .before .is-done .ensures) ∙ not-false _ (c .if1 .left)
 
 returns-2 : tie.Need-returns-2
 unfolding encodingRefusal
-returns-2 c = rw (said (c .before .before .before .before .before), passed (c .before .before .before), lt-ltb _ _ (c .if2 .taken))
+returns-2 c =
+    let s = c .before .before .before .before .before in
+    let few : ltb (s .before .args .count .0) (s .before .args .order .0) ≡ true = lt-ltb _ _ (c .if2 .taken) in
+    rw (said s, passed (c .before .before .before), few)
 
 returns-3 : tie.Need-returns-3
 unfolding encodingRefusal
-returns-3 c = rw (said (c .before .before .before .before .before), passed (c .before .before .before), le-ltb _ _ (c .if2 .left))
+returns-3 c =
+    let s = c .before .before .before .before .before in
+    let enough : ltb (s .before .args .count .0) (s .before .args .order .0) ≡ false = le-ltb _ _ (c .if2 .left) in
+    rw (said s, passed (c .before .before .before), enough)
 
 pub encoding-answer-spec : {M : Type 1} → statement M
 encoding-answer-spec = tie.close (tie.spec coding-answer-requires is-done-requires returns returns-2 returns-3)

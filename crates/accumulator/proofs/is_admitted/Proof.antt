@@ -9,9 +9,9 @@ use Rattle.kinds.specs.declared.Width.{Width}
 use Rattle.kinds.specs.declared.Width.the-variants.{Eight, Sixteen, ThirtyTwo}
 use Rattle.kinds.specs.Widths.{bitsOf}
 use Rattle.rule.specs.Numbers.{greatest}
-use Rattle.admission.proofs.Budget as budget
-use Rattle.admission.proofs.is_admitted.Statement.{statement}
-use Rattle.admission.proofs.is_admitted.Tie as tie
+use Rattle.accumulator.proofs.Budget as budget
+use Rattle.accumulator.proofs.is_admitted.Statement.{statement}
+use Rattle.accumulator.proofs.is_admitted.Tie as tie
 
 accumulator-limit-requires : tie.Need-accumulator-limit-requires
 accumulator-limit-requires c κs = search needs

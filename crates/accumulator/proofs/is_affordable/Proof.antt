@@ -12,9 +12,9 @@ use mir.Syntax.{w32, w64}
 use mir.Val.{SFits}
 use mir.Facts.{toZ-ofZ, sfits-widen}
 use Rattle.rule.specs.Prediction.{sumAbs}
-use Rattle.admission.proofs.Budget as budget
-use Rattle.admission.proofs.is_affordable.Statement.{statement}
-use Rattle.admission.proofs.is_affordable.Tie as tie
+use Rattle.accumulator.proofs.Budget as budget
+use Rattle.accumulator.proofs.is_affordable.Statement.{statement}
+use Rattle.accumulator.proofs.is_affordable.Tie as tie
 
 abbrev Inv-loop : tie.InvT-loop
 Inv-loop weights most all left₀ i₀ left i = (i ≤ length weights) × (leb (most * sumAbs (drop i weights)) left ≡ leb (most * sumAbs weights) all)
