@@ -8,6 +8,9 @@ or ("conv1", shift, bias, order), beside it a list of 32 weights.
 """
 import sys
 
+sys.dont_write_bytecode = True
+import coding  # noqa: E402
+
 NONE = [0] * 32
 EMPTY = (("nothing",), NONE)
 GREATEST_WINDOW_LOG = 24
@@ -168,6 +171,17 @@ def say_every_two_bytes(variants):
     print(name, *counts.values(), total)
 
 
+def say_coding(data):
+    """Three samples of 8 bits, coded with the record that the bytes are."""
+    answer, bits, record, weights = read(data, True)
+    line = [answer, bits]
+    if record[0] == "conv1":
+        _, shift, bias, order = record
+        coded, samples, _ = coding.encode(8, order, shift, bias, weights[:order], [10, 12, 11])
+        line += [coded, *samples]
+    print("c", *line)
+
+
 def main():
     for order, flag, room in ((0, 0, 0), (0, 1, 1), (1, 0, 0), (1, 0, 1), (3, 1, 2), (7, 1, 1), (8, 0, 0), (2**64 - 1, 0, 1)):
         if (order, room) == (0, 0):
@@ -202,6 +216,11 @@ def main():
         say_truncations(record, weights)
     say_every_two_bytes(True)
     say_every_two_bytes(False)
+    for text in (
+        "0300000000000000004100000020", "f301000000000000004100000020", "0300000000000000004120000020",
+        "0300000000000000000700000020000000200000002000000020", "03000000000000000041000000",
+    ):
+        say_coding(bytes.fromhex(text))
 
 
 if __name__ == "__main__":

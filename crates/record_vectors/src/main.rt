@@ -1,6 +1,7 @@
-// Runs the record's reader and writer on the smallest, the largest and the just refused values, on every truncation, and on every buffer of two bytes.
-// A line that begins with w is a write into a buffer of FF bytes: room, answer, bits, the buffer after it; behind it what reading the buffer gives.
-// A line that begins with r is a read: answer, bits, the record. A t line has the answers at each number of bytes from 0 on.
+// Runs the record's reader and writer on the smallest, the largest and the just refused values, on every truncation, and on every buffer
+// of two bytes; and codes with records that were read. A line that begins with w is a write into a buffer of FF bytes: room, answer, bits,
+// the buffer after it; behind it what reading the buffer gives. A line that begins with r is a read: answer, bits, the record. A t line has
+// the answers at each number of bytes from 0 on.
 ghost use Prim.Native.Nat.{_^_, _<_};
 use kinds::Order;
 use kinds::Shift;
@@ -8,6 +9,8 @@ use libc::STDOUT_FILENO;
 use record::DeltaEncoding;
 use record::DeltaRecord;
 use record::Reading;
+
+mod coding;
 
 fn say(text: &[u8]) {
     io::write_all(STDOUT_FILENO, text);
@@ -456,4 +459,5 @@ fn main() {
     truncations();
     every_two_bytes(true);
     every_two_bytes(false);
+    coding::run();
 }

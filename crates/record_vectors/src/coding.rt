@@ -1,15 +1,11 @@
-// Reads a configuration's record and codes 8-bit samples with it. The record knows no width, so a shift or weights that 8 bits do not
-// admit are read without complaint, and refused by the coder's own tests. A line has the reader's answer and bits; then, for a Conv1
+// Records read, and 8-bit samples coded with them. The record knows no width, so a shift or weights that 8 bits do not admit are read
+// without complaint, and refused by the coder's own tests. A line that begins with c has the reader's answer and bits; then, for a Conv1
 // record, the coder's answer and the three samples after the call.
+use crate::say;
+use crate::say_number;
 use kinds::Order;
 use kinds::Shift;
-use libc::STDOUT_FILENO;
 use record::DeltaEncoding;
-
-fn say_number(n: u64) {
-    io::write_all(STDOUT_FILENO, b" ");
-    io::print_decimal(STDOUT_FILENO, n);
-}
 
 fn say_sample(sample: u8) {
     say_number(sample as u64);
@@ -36,6 +32,7 @@ fn code(shift: Shift, bias: i64, order: Order, weights: [i32; 32]) {
 }
 
 fn read_and_code(bytes: &[u8]) {
+    say(b"c");
     let reading = record_read::read_from(bytes, true);
     let answer = reading.answer;
     say_number(kinds::number(answer) as u64);
@@ -60,10 +57,10 @@ fn read_and_code(bytes: &[u8]) {
             secondary_uses_delta: _,
         } => {}
     }
-    io::write_all(STDOUT_FILENO, b"\n");
+    say(b"\n");
 }
 
-fn main() {
+pub(crate) fn run() {
     // weight 1, bias 0, shift 0: the table's T1
     read_and_code(&[0x03, 0, 0, 0, 0, 0, 0, 0, 0, 0x41, 0, 0, 0, 0x20]);
     // the same with shift 31, which 8 bits refuse

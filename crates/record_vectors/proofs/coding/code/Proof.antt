@@ -2,8 +2,8 @@
 use native.Mathlib.Omega.{arith}
 use lib.ListN.{length-take}
 use borrow.Author.Needs.{needs}
-use Rattle.record_coding.proofs.code.Statement.{statement}
-use Rattle.record_coding.proofs.code.Tie as tie
+use Rattle.record_vectors.proofs.coding.code.Statement.{statement}
+use Rattle.record_vectors.proofs.coding.code.Tie as tie
 
 returns : tie.Need-returns
 returns c = search needs
