@@ -159,7 +159,7 @@ fn shifts() {
     at_32(one(-1073741824.0, -1073741824.0), 0);
 }
 
-fn integers() {
+fn rounded() {
     print(b"to 32 bits, to the nearest\n");
     print_whole(rounding::round_away(2147483647.0, 32));
     print_whole(rounding::round_away(2147483647.4999995, 32));
@@ -172,6 +172,9 @@ fn integers() {
     print_whole(rounding::round_away(1.0 / 0.0, 32));
     print_whole(rounding::round_away(0.0 / 0.0, 32));
     print_whole(rounding::round_away(5e-324, 32));
+}
+
+fn cut() {
     print(b"to 64 bits, cut\n");
     print_whole(rounding::cut(9223372036854774784.0, 64));
     print_whole(rounding::cut(9223372036854775808.0, 64));
@@ -195,6 +198,9 @@ fn not_finite() {
     two_at_each(1.0, 1.0, nan);
     two_at_each(1.0, 1.0, infinity);
     two_at_each(1.0, 1.0, -infinity);
+}
+
+fn extreme() {
     print(b"sums and products that overflow\n");
     two_at_each(1e308, 1e308, 0.0);
     two_at_each(1e308, -1e308, 0.0);
@@ -211,6 +217,9 @@ fn refused() {
     at_32(fitted(1.0, 1.0, 0.0, 2), 0);
     at_32(fitted(0.0 / 0.0, 1.0, 0.0, 0), 0);
     at_16(fitted(0.0 / 0.0, 1.0, 0.0, 32), 0);
+}
+
+fn all_places() {
     print(b"all 32 places\n");
     let mut slice = [77i32; 32];
     let fit = Fitted {
@@ -227,7 +236,10 @@ fn main() {
     halves();
     exponents();
     shifts();
-    integers();
+    rounded();
+    cut();
     not_finite();
+    extreme();
     refused();
+    all_places();
 }
