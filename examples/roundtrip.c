@@ -1,7 +1,7 @@
 /* Encodes a short trace of 16-bit samples, decodes its residuals in two pieces, and says whether the trace came back.
  *
- *   rt staticlib boundary
- *   cc -Iinclude examples/roundtrip.c target/staticlib/libboundary.a -o roundtrip && ./roundtrip
+ *   tools/archive
+ *   cc -Iinclude examples/roundtrip.c target/native/libclaspotter.a -o roundtrip && ./roundtrip
  */
 #include <stdio.h>
 #include <string.h>

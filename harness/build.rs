@@ -10,7 +10,7 @@ fn main() {
     let here = PathBuf::from(env::var_os("CARGO_MANIFEST_DIR").unwrap());
     let repository = here.parent().unwrap().to_path_buf();
     let named = |variable: &str, place: &str| env::var_os(variable).map(PathBuf::from).unwrap_or_else(|| repository.join(place));
-    let library = named("CLASPOTTER_ARCHIVE", "target/native/libboundary.a");
+    let library = named("CLASPOTTER_ARCHIVE", "target/native/libclaspotter.a");
     let header = named("CLASPOTTER_HEADER", "include/claspotter.h");
     println!("cargo:rerun-if-changed={}", library.display());
 

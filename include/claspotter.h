@@ -1,7 +1,7 @@
 /* Claspotter: residuals of wall traces, and the traces again.
  *
  * This header is the single description of the boundary. Every function is proved to meet the promise that stands with it in
- * crates/boundary/src, for any numbers and any lengths; what the proof cannot see is how it is called, which is up to the caller:
+ * crates/boundary_*, for any numbers and any lengths; what the proof cannot see is how it is called, which is up to the caller:
  *
  *   - A slice is a pointer and then a length, in entries. The pointer is never null, also where the length is 0, it is aligned for
  *     its entries, and the length is the number of entries that may be read, or written where the pointer is not const.

@@ -1,1 +1,1 @@
-mod Handed
+pub mod Handed

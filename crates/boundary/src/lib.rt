@@ -1,6 +1,2 @@
-// The library that other languages call. Every function answers with a refusal number; a refusal changes nothing.
-// include/claspotter.h describes it. `w16` is the source of the other two widths: tools/widths.
-pub mod records;
-pub mod w16;
-pub mod w32;
-pub mod w8;
+// Nothing runs here: specs/ says what a call of the exported functions leaves, and proofs/ how an inner function's promise is handed on.
+// The functions stand in boundary_8, boundary_16, boundary_32 and boundary_record.
