@@ -6,9 +6,11 @@ use Prim.Native.Nat.{ℕ, zero, suc, _+_, _-_, _%_, _^_, _≤_, _<_}
 use native.Mathlib.Nat.{not-suc-le-zero}
 use native.Mathlib.Numerals.{add-one}
 use native.Mathlib.Omega.{arith}
-use lib.ListN.{length, getD, take, drop, set, length-set, length-map, length-drop}
-use lib.Seq.{getD-take, getD-drop, drop-cons, drop-set-add, take-suc-set}
+use lib.IntN.{ℤ}
+use lib.ListN.{length, getD, take, drop, set, length-set, length-map, length-take, length-drop}
+use lib.Seq.{getD-take, getD-drop, drop-cons, drop-set-add, take-suc-set, length-take-le}
 use Rattle.rule.specs.Coding.{toggled, decodedPiece, newState}
+use Rattle.decoding_steps.specs.Steps.{Decodes}
 use Rattle.decoding_steps.proofs.Batches as batches
 use Rattle.decoding_steps.proofs.Turning as turning
 
@@ -25,6 +27,21 @@ oldest k l i some =
     let e : i + 0 ≡ i = omega arith in
     getD-take k (drop i l) 0 0 some ∙ getD-drop i l 0 0 ∙ ap (λ (n : ℕ). getD l n 0) e
 
+-- a latent less is left as one is written
+pub less : (l : List ℕ) (i v : ℕ) → i < length l → length (set l i v) - (i + 1) < length l - i
+less l i v within = rw (length-set l i v) (omega arith)
+
+-- the part between i and i + k, which the prediction is made from
+pub part-long : (k : ℕ) (l : List ℕ) (i : ℕ) → i + k ≤ length l → length (take (i + k - i) (drop i l)) ≡ k
+part-long k l i inside =
+    let whole : i + k - i ≡ k = omega arith in
+    rw whole (length-take-le k (drop i l) (rw length-drop (omega arith)))
+
+pub part-short : (k : ℕ) (l : List ℕ) (i : ℕ) → length (take (i + k - i) (drop i l)) ≤ k
+part-short k l i =
+    let whole : i + k - i ≡ k = omega arith in
+    rw (whole, length-take) (omega arith)
+
 -- the loop's invariant, from the samples s₀ and the latents l₀
 pub record Holds (W k : ℕ) (p : List ℕ → ℕ) (s₀ l₀ s l : List ℕ) (i : ℕ) : Type 0 where
   pub room : length s ≡ length s₀
@@ -36,6 +53,9 @@ module _ (W k : ℕ) (p : List ℕ → ℕ) (some : 1 ≤ k) (s₀ l₀ : List �
   begun = record { room = refl; same = refl; going = batches.begun W k p (take k s₀) (map (toggled W) l₀) full₀ }
 
   module _ {s l : List ℕ} {i : ℕ} (h : Holds W k p s₀ l₀ s l i) where
+    pub inside : k + length l₀ ≤ length s₀ → i < length l → i + k < length s
+    inside room within = omega (arith, h .room, h .same)
+
     -- the prediction is made from the part between i and i + k
     pub turn : i < length l → i + k < length s → (predicted y : ℕ) → predicted ≡ p (take (i + k - i) (drop i s)) → y ≡ (getD l i 0 + predicted) % 2 ^ W
         → Holds W k p s₀ l₀ (set s (i + k) y) (set l i (getD s i 0)) (i + 1)
@@ -54,3 +74,9 @@ module _ (W k : ℕ) (p : List ℕ → ℕ) (some : 1 ≤ k) (s₀ l₀ : List �
         let t = batches.ended W k p (take k s₀) (map (toggled W) l₀) full₀ (h .going) (omega (arith, turning.mixed-long W i l)) in
         let e : i ≡ length l₀ = omega (arith, h .same, h .going .within, length-map l₀ (toggled W)) in
         (sym (turning.mixed-all W i l past) ∙ t .0, rw (← e) (t .1))
+
+-- what the loop leaves, in the terms of the batch that it decodes
+pub left : {W q : ℕ} {b b′ : ℤ} {ws : List ℤ} {from from′ residuals residuals′ outputs last next : List ℕ}
+    → b ≡ b′ → from ≡ from′ → residuals ≡ residuals′ → next ≡ last
+    → Decodes W q b ws from residuals outputs last → Decodes W q b′ ws from′ residuals′ outputs next
+left e f g h d = record { outputs-are = rw (e, f, g) at (d .outputs-are); next-is = h ∙ rw (e, f, g) at (d .next-is) }

@@ -1,8 +1,9 @@
 -- The loop is `Residuals`'. Assumes nothing.
-use Prim.Native.Nat.{_-_}
+use Prim.Native.Nat.{_+_, _-_, _<_}
+use native.Mathlib.Nat.{le-of-lt}
 use native.Mathlib.Omega.{arith}
 use borrow.Author.Needs.{needs}
-use lib.ListN.{length, length-set}
+use lib.ListN.{length, getD}
 use mir.Syntax.{w64 as acc}
 use mir.Val.{toZ, ofZ}
 use mir.Facts.{toZ-ofZ}
@@ -21,7 +22,15 @@ loop-holds : tie.Need-loop-holds Inv-loop μ-loop
 loop-holds c =
     let s = c .before .before in
     let a = s .args in
-    law.begun 32 (length (a .weights .now)) (prediction 32 (a .shift .0) (toZ acc (ofZ acc (a .bias))) (a .weights .now)) (s .pre .0 .some) (a .samples .now) (a .latents .now) (s .pre .0 .full)
+    law.begun 32 _ _ (s .pre .0 .some) (a .samples .now) (a .latents .now) (s .pre .0 .full)
+
+-- in a turn
+module _ (c : tie.In-loop Inv-loop μ-loop) where
+  abbrev start : tie.Start Inv-loop μ-loop
+  start = c .before .before .before .before
+
+  inside : c .before .loop .i + length (start .args .weights .now) < length (c .before .loop .samples)
+  inside = law.inside 32 _ _ (start .pre .0 .some) _ _ (start .pre .0 .full) (c .before .loop .inv) (start .pre .1) (c .loop-test .taken)
 
 add-end : tie.Need-add-end Inv-loop μ-loop
 add-end c = search needs
@@ -37,61 +46,65 @@ part-predict-one-start : tie.Need-part-predict-one-start Inv-loop μ-loop
 part-predict-one-start c = search needs
 
 part-predict-one-end : tie.Need-part-predict-one-end Inv-loop μ-loop
-part-predict-one-end c = search needs
+part-predict-one-end c = le-of-lt (inside (c .before))
 
 predict-one-requires : tie.Need-predict-one-requires Inv-loop μ-loop
-predict-one-requires c κs = search needs
+predict-one-requires c κs =
+    let t = c .before .before in
+    (law.part-long _ _ _ (le-of-lt (inside t)), rw (toZ-ofZ (start t .fits .bias)) (start t .pre .0 .ready))
 
 -- the place in bytes
 mul-put-on : tie.Need-mul-put-on Inv-loop μ-loop
-mul-put-on c = search needs
+mul-put-on c = mul-predict-one (c .before .before .before)
 
 slice-read-put-on : tie.Need-slice-read-put-on Inv-loop μ-loop
-slice-read-put-on c = search needs
+slice-read-put-on c = c .before .before .before .before .loop-test .taken
 
 put-on-requires : tie.Need-put-on-requires Inv-loop μ-loop
-put-on-requires c κs = search needs
+put-on-requires c κs = tt
 
 -- the place in bytes
 mul-latents : tie.Need-mul-latents Inv-loop μ-loop
-mul-latents c = search needs
+mul-latents c = mul-predict-one (c .before .before .before .before .before)
 
 slice-read-latents : tie.Need-slice-read-latents Inv-loop μ-loop
 slice-read-latents c = search needs
 
 -- the place in bytes
 mul-latents-2 : tie.Need-mul-latents-2 Inv-loop μ-loop
-mul-latents-2 c = search needs
+mul-latents-2 c = mul-predict-one (c .before .before .before .before .before .before)
 
 slice-write-latents : tie.Need-slice-write-latents Inv-loop μ-loop
-slice-write-latents c = search needs
+slice-write-latents c = c .before .before .before .before .before .before .loop-test .taken
 
 -- the place in bytes
 mul-samples : tie.Need-mul-samples Inv-loop μ-loop
 mul-samples c = search needs
 
 slice-write-samples : tie.Need-slice-write-samples Inv-loop μ-loop
-slice-write-samples c = search needs
+slice-write-samples c = inside (c .before .before .before .before .before .before)
 
 add-i : tie.Need-add-i Inv-loop μ-loop
 add-i c = search needs
 
 loop-less : tie.Need-loop-less Inv-loop μ-loop
-loop-less c = simp length-set (omega arith)
+loop-less c =
+    let t = c .before .before .before .before .before .before in
+    let l = t .before .loop in
+    law.less (l .latents) (l .i) (getD (l .samples) (l .i) 0) (t .loop-test .taken)
 
 loop-again : tie.Need-loop-again Inv-loop μ-loop
 loop-again c =
-    let l = c .before .before .before .before .before .before .before .loop in
-    let s = c .before .before .before .before .before .before .before .before .before .before in
-    let a = s .args in
-    let p = prediction 32 (a .shift .0) (toZ acc (ofZ acc (a .bias))) (a .weights .now) in
-    law.turn 32 (length (a .weights .now)) p (s .pre .0 .some) (a .samples .now) (a .latents .now) (s .pre .0 .full) (l .inv) (omega arith) (omega (arith, l .inv .room, l .inv .same)) _ _ (c .before .before .before .predict-one .ensures) (c .before .put-on .ensures)
+    let t = c .before .before .before .before .before .before in
+    let s = start t in
+    law.turn 32 _ _ (s .pre .0 .some) _ _ (s .pre .0 .full) (t .before .loop .inv) (t .loop-test .taken) (inside t) _ _
+    (c .before .before .before .predict-one .ensures) (c .before .put-on .ensures)
 
 same-length : tie.Need-same-length Inv-loop μ-loop
-same-length c = search needs
+same-length c = c .before .loop .inv .room
 
 same-length-2 : tie.Need-same-length-2 Inv-loop μ-loop
-same-length-2 c = search needs
+same-length-2 c = c .before .loop .inv .same
 
 returns : tie.Need-returns Inv-loop μ-loop
 returns c =

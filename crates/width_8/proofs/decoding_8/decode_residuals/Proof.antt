@@ -1,8 +1,9 @@
 -- The loop is `Residuals`'. Assumes nothing.
-use Prim.Native.Nat.{_-_}
+use Prim.Native.Nat.{_+_, _-_, _<_}
+use native.Mathlib.Nat.{le-of-lt}
 use native.Mathlib.Omega.{arith}
 use borrow.Author.Needs.{needs}
-use lib.ListN.{length, length-set}
+use lib.ListN.{length, getD}
 use mir.Syntax.{w16 as acc}
 use mir.Val.{toZ, ofZ}
 use mir.Facts.{toZ-ofZ}
@@ -21,7 +22,15 @@ loop-holds : tie.Need-loop-holds Inv-loop μ-loop
 loop-holds c =
     let s = c .before .before in
     let a = s .args in
-    law.begun 8 (length (a .weights .now)) (prediction 8 (a .shift .0) (toZ acc (ofZ acc (a .bias))) (a .weights .now)) (s .pre .0 .some) (a .samples .now) (a .latents .now) (s .pre .0 .full)
+    law.begun 8 _ _ (s .pre .0 .some) (a .samples .now) (a .latents .now) (s .pre .0 .full)
+
+-- in a turn
+module _ (c : tie.In-loop Inv-loop μ-loop) where
+  abbrev start : tie.Start Inv-loop μ-loop
+  start = c .before .before .before .before
+
+  inside : c .before .loop .i + length (start .args .weights .now) < length (c .before .loop .samples)
+  inside = law.inside 8 _ _ (start .pre .0 .some) _ _ (start .pre .0 .full) (c .before .loop .inv) (start .pre .1) (c .loop-test .taken)
 
 add-end : tie.Need-add-end Inv-loop μ-loop
 add-end c = search needs
@@ -33,45 +42,49 @@ part-predict-one-start : tie.Need-part-predict-one-start Inv-loop μ-loop
 part-predict-one-start c = search needs
 
 part-predict-one-end : tie.Need-part-predict-one-end Inv-loop μ-loop
-part-predict-one-end c = search needs
+part-predict-one-end c = le-of-lt (inside (c .before))
 
 predict-one-requires : tie.Need-predict-one-requires Inv-loop μ-loop
-predict-one-requires c κs = search needs
+predict-one-requires c κs =
+    let t = c .before .before in
+    (law.part-long _ _ _ (le-of-lt (inside t)), rw (toZ-ofZ (start t .fits .bias)) (start t .pre .0 .ready))
 
 slice-read-put-on : tie.Need-slice-read-put-on Inv-loop μ-loop
-slice-read-put-on c = search needs
+slice-read-put-on c = c .before .before .before .before .loop-test .taken
 
 put-on-requires : tie.Need-put-on-requires Inv-loop μ-loop
-put-on-requires c κs = search needs
+put-on-requires c κs = tt
 
 slice-read-latents : tie.Need-slice-read-latents Inv-loop μ-loop
 slice-read-latents c = search needs
 
 slice-write-latents : tie.Need-slice-write-latents Inv-loop μ-loop
-slice-write-latents c = search needs
+slice-write-latents c = c .before .before .before .before .before .before .loop-test .taken
 
 slice-write-samples : tie.Need-slice-write-samples Inv-loop μ-loop
-slice-write-samples c = search needs
+slice-write-samples c = inside (c .before .before .before .before .before .before)
 
 add-i : tie.Need-add-i Inv-loop μ-loop
 add-i c = search needs
 
 loop-less : tie.Need-loop-less Inv-loop μ-loop
-loop-less c = simp length-set (omega arith)
+loop-less c =
+    let t = c .before .before .before .before .before .before in
+    let l = t .before .loop in
+    law.less (l .latents) (l .i) (getD (l .samples) (l .i) 0) (t .loop-test .taken)
 
 loop-again : tie.Need-loop-again Inv-loop μ-loop
 loop-again c =
-    let l = c .before .before .before .before .before .before .before .loop in
-    let s = c .before .before .before .before .before .before .before .before .before .before in
-    let a = s .args in
-    let p = prediction 8 (a .shift .0) (toZ acc (ofZ acc (a .bias))) (a .weights .now) in
-    law.turn 8 (length (a .weights .now)) p (s .pre .0 .some) (a .samples .now) (a .latents .now) (s .pre .0 .full) (l .inv) (omega arith) (omega (arith, l .inv .room, l .inv .same)) _ _ (c .before .before .before .predict-one .ensures) (c .before .put-on .ensures)
+    let t = c .before .before .before .before .before .before in
+    let s = start t in
+    law.turn 8 _ _ (s .pre .0 .some) _ _ (s .pre .0 .full) (t .before .loop .inv) (t .loop-test .taken) (inside t) _ _
+    (c .before .before .before .predict-one .ensures) (c .before .put-on .ensures)
 
 same-length : tie.Need-same-length Inv-loop μ-loop
-same-length c = search needs
+same-length c = c .before .loop .inv .room
 
 same-length-2 : tie.Need-same-length-2 Inv-loop μ-loop
-same-length-2 c = search needs
+same-length-2 c = c .before .loop .inv .same
 
 returns : tie.Need-returns Inv-loop μ-loop
 returns c =
