@@ -40,7 +40,12 @@ back w h = toZ-ofZ (record { sfits = h })
 pub wider : (w v : Width) {z r : ℤ} → mag z < 2 ^ hbits w → SFits v z → r ≡ toZ w (ofZ w z) → toZ v (ofZ v r) ≡ z
 wider w v h fit e = rw (e, back w h) (toZ-ofZ fit)
 
--- a sum with a term more, from its bits
+-- what a sum z and a weight z′ are added with
+pub grow-fits : {w : Width} {ns ws : List ℤ} {j y : ℕ} → Grows w ns ws j y → {z z′ : ℤ} → z ≡ getD ns j (pos 0) → z′ ≡ getD ws (6 - j) (pos 0)
+    → SFits w (z′ *ℤ pos y) × SFits w (z +ℤ z′ *ℤ pos y)
+grow-fits g e f = rw (e, f) (g .product, g .sum)
+
+-- and the sum with a term more, from its bits
 pub grown : {w : Width} {ns ws : List ℤ} {j y : ℕ} → Grows w ns ws j y → {v : ℤ} → v ≡ getD ns j (pos 0) +ℤ getD ws (6 - j) (pos 0) *ℤ pos y
     → toZ w (ofZ w v) ≡ getD ns j (pos 0) +ℤ getD ws (6 - j) (pos 0) *ℤ pos y
 grown g e = rw e (toZ-ofZ (g .sum))
@@ -48,6 +53,11 @@ grown g e = rw e (toZ-ofZ (g .sum))
 -- the oldest of six samples goes, and y comes
 pub shifted-are : (xs : List ℕ) (y : ℕ) → length xs ≡ 6 → six (getD xs 1 0) (getD xs 2 0) (getD xs 3 0) (getD xs 4 0) (getD xs 5 0) y ≡ shifted xs y
 shifted-are xs y e = ap (λ (l : List ℕ). shifted l y) (six-are 0 xs e)
+
+-- six samples that come one after another, from six zeros on
+pub all-came : (xs : List ℕ) → length xs ≡ 6 → {a b c d e f : List ℕ} → a ≡ shifted (six 0 0 0 0 0 0) (getD xs 0 0) → b ≡ shifted a (getD xs 1 0)
+    → c ≡ shifted b (getD xs 2 0) → d ≡ shifted c (getD xs 3 0) → e ≡ shifted d (getD xs 4 0) → f ≡ shifted e (getD xs 5 0) → f ≡ xs
+all-came xs full one two three four five last = last ∙ rw (five, four, three, two, one) (six-are 0 xs full)
 
 -- samples past the weights count for nothing
 sum-front : (s : ℤ) (ws : List ℤ) (xs ys : List ℕ) → length ws ≤ length xs → sumAt s ws (xs ++ ys) ≡ sumAt s ws xs

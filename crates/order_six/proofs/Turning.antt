@@ -16,10 +16,12 @@ module _ (q : ℕ) {W : ℕ} {bias : ℤ} {ws : List ℤ} {xs : List ℕ} {ns : 
   unfolding prediction
   predicted = ap (settle W q) (running.sum-at r 0)
 
-  pub turn : (state₀ latents₀ latents : List ℕ) (i y : ℕ) → length state₀ ≡ length ws
+  -- the sample y that is put on the prediction z, which is settled from the sum n, comes into the known samples
+  pub turn : (state₀ latents₀ latents : List ℕ) (i : ℕ) {y z : ℕ} {n : ℤ} {next : List ℕ} → length state₀ ≡ length ws
       → batches.Going W (length ws) (prediction W q bias ws) state₀ latents₀ xs (turning.mixed W i latents) i
-      → i < length latents → y ≡ (getD latents i 0 + settle W q (getD ns 0 (pos 0))) % 2 ^ W
-      → batches.Going W (length ws) (prediction W q bias ws) state₀ latents₀ (shifted xs y) (turning.mixed W (i + 1) (set latents i (getD xs 0 0))) (i + 1)
-  turn state₀ latents₀ latents i y full₀ g within e =
-      turning.turn W (length ws) (prediction W q bias ws) (omega (arith, r .weights)) state₀ latents₀ full₀ xs latents i y g within
-      (e ∙ ap (λ (z : ℕ). (getD latents i 0 + z) % 2 ^ W) predicted)
+      → i < length latents → n ≡ getD ns 0 (pos 0) → z ≡ settle W q n → y ≡ (getD latents i 0 + z) % 2 ^ W → next ≡ shifted xs y
+      → batches.Going W (length ws) (prediction W q bias ws) state₀ latents₀ next (turning.mixed W (i + 1) (set latents i (getD xs 0 0))) (i + 1)
+  turn state₀ latents₀ latents i {y} full₀ g within is settled put slid =
+      rw slid
+      (turning.turn W (length ws) (prediction W q bias ws) (omega (arith, r .weights)) state₀ latents₀ full₀ xs latents i y g within
+      (put ∙ ap (λ (v : ℕ). (getD latents i 0 + v) % 2 ^ W) (settled ∙ ap (settle W q) is ∙ predicted)))
