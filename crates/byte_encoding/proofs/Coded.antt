@@ -10,10 +10,12 @@ use native.Mathlib.Omega.{arith}
 use borrow.Author.Tests.{ltb-true, ltb-false, lt-ltb, le-ltb}
 use borrow.Rule.Slice.PartMut.{putMid}
 use lib.Dec.{ltb}
+use lib.IntN.{ℤ}
 use lib.ListN.{length, getD, take, drop, length-append, length-take, length-drop, drop-of-length-le, take-append-drop}
 use lib.Seq.{take-nil, take-at, drop-at, take-all, take-take, drop-drop, drop-append-le, length-take-le, getD-take, getD-drop, ext-getD}
 use Rattle.kinds.specs.declared.Answer.the-variants.{Done, TooFewSamples}
-use Rattle.kinds.specs.Answers.{refuse, isDone}
+use Rattle.kinds.specs.declared.Answer.{Answer}
+use Rattle.kinds.specs.Answers.{refuse, isDone, whenDone}
 use Rattle.rule.specs.Coding.{window, codedAt, encodedBuffer}
 use Rattle.rule.specs.Refusals.{Config, codingRefusal, encodingRefusal}
 use Rattle.rule.proofs.Filling.{length-tabulate, getD-tabulate}
@@ -33,6 +35,16 @@ coding-allowed W c state n h = go (isDone (codingRefusal W c state)) refl h
     go : (t : Bool) → isDone (codingRefusal W c state) ≡ t → isDone (cond t (refuse (ltb n (c .order)) TooFewSamples Done) (codingRefusal W c state)) ≡ true → isDone (codingRefusal W c state) ≡ true
     go true e h = e
     go false e h = h
+
+-- an answer is done, once its bias and its lengths are known to be those that were tested
+pub allowed-done : (W : ℕ) (c : ℤ → Config) {answer : Answer} {b b₀ : ℤ} {state state₀ n n₀ : ℕ} → answer ≡ encodingRefusal W (c b) state n
+    → b ≡ b₀ → state ≡ state₀ → n ≡ n₀ → isDone (codingRefusal W (c b₀) state₀) ≡ true → c b₀ .order ≤ n₀ → isDone answer ≡ true
+allowed-done W c {b₀ = b₀} {state₀ = state₀} {n₀ = n₀} said bias held long h enough =
+    rw (said, bias, held, long) (encoding-allowed W (c b₀) state₀ n₀ h enough)
+
+-- and what is left is what is promised of a call that is done
+pub left-done : (answer : Answer) (out coded refused : List ℕ) → isDone answer ≡ true → out ≡ whenDone answer coded refused → out ≡ coded
+left-done answer out coded refused h e = rw h at e
 
 -- the bytes of the first k samples are the first bytes
 pub front-entries : (n : ℕ) → 0 < n → (bytes : List ℕ) (k : ℕ) → n * k ≤ length bytes → entries n (take (n * k) bytes) ≡ take k (entries n bytes)
@@ -175,6 +187,13 @@ module _ {n k : ℕ} {bytes : List ℕ} {from m skip start : ℕ} (c : Piece n k
   rest =
       let count : start + (m - skip) ≡ length bytes / n = omega (arith, begins, ends, near) in
       sym (mul-add n start (m - skip)) ∙ ap (λ (z : ℕ). n * z) count ∙ sym whole
+
+  -- the bytes that are loaded, and those that are coded, begin within all the bytes
+  pub from-within : n * from ≤ length bytes
+  from-within = omega (arith, split)
+
+  pub start-within : n * start ≤ length bytes
+  start-within = omega (arith, rest)
 
   left-long : length left ≡ n * (m - skip)
   left-long = simp (length-take, length-drop) (omega (arith, rest))

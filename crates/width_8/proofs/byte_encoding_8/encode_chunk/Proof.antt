@@ -1,10 +1,12 @@
 -- What is loaded, coded and stored is what `Coded` says of one chunk. Assumes nothing.
-use mathlib.Core.Path.{_≡_, sym, ap, _∙_}
+use mathlib.Core.Path.{_≡_, sym, ap₂, _∙_}
 use mathlib.Core.Bool.{true}
 use mathlib.Core.List.{List, _++_}
-use Prim.Native.Nat.{ℕ, _-_, _/_, _≤_}
+use Prim.Native.Nat.{ℕ, _-_, _*_, _/_, _≤_}
 use native.Mathlib.Omega.{arith}
 use borrow.Author.Needs.{needs}
+use borrow.Rule.Slice.PartMut.{same-len-mid}
+use lib.IntN.{ℤ}
 use lib.ListN.{length, take, drop, replicate}
 use lib.Seq.{length-take-le}
 use mir.Facts.{toZ-ofZ}
@@ -66,19 +68,19 @@ module _ (c : tie.After-least) where
   enough = omega (arith, c .least .ensures, start .pre .begins, start .pre .enough)
 
 sub-from : tie.Need-sub-from
-sub-from c = search needs
+sub-from c = omega (arith, c .least .ensures)
 
 sub-n : tie.Need-sub-n
-sub-n c = search needs
+sub-n c = omega (arith, piece c .ends)
 
 mul-first : tie.Need-mul-first
-mul-first c = search needs
+mul-first c = omega (arith, law.from-within (piece c), start c .good)
 
 sub-load : tie.Need-sub-load
-sub-load c = search needs
+sub-load c = law.from-within (piece c)
 
 part-load-start : tie.Need-part-load-start
-part-load-start c = search needs
+part-load-start c = law.from-within (piece (c .before))
 
 part-load-end : tie.Need-part-load-end
 part-load-end c = search needs
@@ -123,25 +125,32 @@ module _ (c : tie.After-encode-into) where
   abbrev l : tie.After-load
   l = c .before .before .before .before
 
+  abbrev a : tie.After-least
+  a = n l
+
   abbrev out : List ℕ
   out = c .encode-into .last .1 .1 .1 .1 .0
 
+  abbrev with : ℤ → Config
+  with b = config (start a .args .order) (start a .args .shift) b (start a .args .weights .now)
+
   done : isDone (c .encode-into .result) ≡ true
   done =
-      ap isDone (rw (toZ-ofZ (start (n l) .fits .bias), front-long l, saved-long (n l)) at (c .encode-into .ensures .0))
-      ∙ law.encoding-allowed 8 (given (n l)) (k (n l)) (m (n l)) (start (n l) .pre .passes) (enough (n l))
+      law.allowed-done 8 with (c .encode-into .ensures .0) (toZ-ofZ (start a .fits .bias)) (saved-long a) (front-long l) (start a .pre .passes) (enough a)
 
-  out-is : out ≡ encodedBuffer 8 (k (n l)) (p (n l)) (take (m (n l)) (drop (from (n l)) (entries (8 / 8) (bytes (n l)))))
-  out-is = rw (done, toZ-ofZ (start (n l) .fits .bias), front l) at (c .encode-into .ensures .1 .0)
+  out-is : out ≡ encodedBuffer 8 (k a) (p a) (take (m a) (drop (from a) (entries (8 / 8) (bytes a))))
+  out-is =
+      law.left-done (c .encode-into .result) out _ _ done (c .encode-into .ensures .1 .0)
+      ∙ ap₂ (λ (b : ℤ). encodedBuffer 8 (k a) (predictor 8 (with b))) (toZ-ofZ (start a .fits .bias)) (front l)
 
 mul-place : tie.Need-mul-place
-mul-place c = search needs
+mul-place c = let v = a (c .before .before) in omega (arith, law.start-within (piece v), start v .good)
 
 sub-store : tie.Need-sub-store
-sub-store c = search needs
+sub-store c = piece (a (c .before .before)) .near
 
 part-store-start : tie.Need-part-store-start
-part-store-start c = search needs
+part-store-start c = piece (a (c .before .before .before)) .near
 
 part-store-end : tie.Need-part-store-end
 part-store-end c =
@@ -149,10 +158,10 @@ part-store-end c =
     law.coded-within (piece (n (l d))) 8 (p (n (l d))) (out-is d) (drop (m (n (l d))) (l d .load .last .1 .0))
 
 sub-store-2 : tie.Need-sub-store-2
-sub-store-2 c = search needs
+sub-store-2 c = law.start-within (piece (a (c .before .before .before .before)))
 
 part-store-start-2 : tie.Need-part-store-start-2
-part-store-start-2 c = search needs
+part-store-start-2 c = law.start-within (piece (a (c .before .before .before .before)))
 
 part-store-end-2 : tie.Need-part-store-end-2
 part-store-end-2 c = search needs
@@ -163,7 +172,10 @@ store-requires c κs =
     law.store-fits (piece (n (l d))) (out d ++ drop (m (n (l d))) (l d .load .last .1 .0))
 
 same-length : tie.Need-same-length
-same-length c = search needs
+same-length c =
+    let v = a (c .before .before .before .before .before .before .before .before) in
+    let place = 8 / 8 * start v .args .start in
+    same-len-mid place (length (bytes v) - place) (bytes v) (c .before .before .store .last .1 .0) (c .before .before .store .kept .1 .0)
 
 returns : tie.Need-returns
 returns c =
