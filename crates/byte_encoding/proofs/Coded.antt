@@ -23,7 +23,7 @@ use Rattle.entries.specs.Entries.{entries, bytesOfAll}
 use Rattle.entries.proofs.Bytes.{Bytes, take-bytes}
 use Rattle.entries.proofs.Lists as lists
 
-pub encoding-allowed : (W : ℕ) (c : Config) (state n : ℕ) → isDone (codingRefusal W c state) ≡ true → c .order ≤ n → isDone (encodingRefusal W c state n) ≡ true
+encoding-allowed : (W : ℕ) (c : Config) (state n : ℕ) → isDone (codingRefusal W c state) ≡ true → c .order ≤ n → isDone (encodingRefusal W c state n) ≡ true
 unfolding encodingRefusal
 encoding-allowed W c state n h enough = rw (h, le-ltb n (c .order) enough)
 
