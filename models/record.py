@@ -1,5 +1,6 @@
 #!/usr/bin/env python3
-"""Prints what the program record_vectors must print, from document 01's section on the delta record alone.
+"""Prints what the program record_vectors must print, from document 01's section on the delta record; what is coded with a record that was
+read is coding.py's.
 
 usage: models/record.py > expected; compare with crates/record_vectors/stdout
 
