@@ -19,10 +19,10 @@ pub fn coding_answer(
 ) -> Answer
     ensures { λ r. ⌜ r ≡ codingRefusal (bitsOf width) (config order shift bias (now (weights .entry))) (state .0) ⌝ }
 {
-    if !limits::is_order(order) {
+    if !crate::limits::is_order(order) {
         return Answer::BadOrder;
     }
-    if !limits::is_shift(width, shift) {
+    if !crate::limits::is_shift(width, shift) {
         return Answer::BadShift;
     }
     if weights.len() != order.0 {
@@ -31,7 +31,7 @@ pub fn coding_answer(
     if state.0 != order.0 {
         return Answer::BadLength;
     }
-    if !accumulator::is_admitted(width, bias, weights) {
+    if !crate::accumulator::is_admitted(width, bias, weights) {
         return Answer::Overflows;
     }
     Answer::Done
@@ -75,3 +75,6 @@ pub fn encoding_answer(
     }
     Answer::Done
 }
+
+pub mod accumulator;
+pub mod limits;

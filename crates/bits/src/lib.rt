@@ -6,3 +6,6 @@ pub enum Found {
     Missing,
     Number(u64),
 }
+
+pub mod reading;
+pub mod writing;

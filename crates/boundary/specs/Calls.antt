@@ -8,7 +8,7 @@ use Rattle.kinds.specs.declared.Answer.{Answer}
 use Rattle.kinds.specs.Answers.{whenDone}
 use Rattle.rule.specs.Coding.{encodedBuffer, decodedPiece, newState}
 use Rattle.rule.specs.Refusals.{Config, predictor}
-use Rattle.layout.specs.Bytes.{samplesIn, samplesBytes, weightsIn}
+use Rattle.byte_coding.specs.Bytes.{samplesIn, samplesBytes, weightsIn}
 
 abbrev pub configOf : ℕ → ℕ → ℤ → List ℤ → Config
 configOf order shift bias weights = record { order = order; shift = shift; bias = bias; weights = weights }

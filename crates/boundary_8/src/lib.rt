@@ -1,9 +1,10 @@
-// What other languages call for 8-bit samples. Every function answers with a refusal number; a refusal changes no lent slice.
+// What other languages call for samples. Every function answers with a refusal number; a refusal changes no lent slice.
 // include/claspotter.h describes it.
 use kinds::Answer;
 use kinds::Order;
 use kinds::Shift;
-use kinds::Width;
+use sample_8::Sample;
+use sample_8::WIDTH;
 ghost use mathlib.Core.Path.{_≡_};
 ghost use mathlib.Core.Bool.{not};
 ghost use lib.ListN.{length};
@@ -12,15 +13,16 @@ ghost use Rattle.kinds.specs.Answers.{numberOf, refuse};
 ghost use Rattle.rule.specs.Prediction.{admitted};
 ghost use Rattle.rule.specs.Refusals.{codingRefusal, encodingRefusal, orderSixRefusal};
 ghost use Rattle.boundary.specs.Calls.{configOf, samplesAfter, savedAfter, pieceAfter, stateAfter, bytesConfig, samplesBytesAfter, savedBytesAfter, pieceBytesAfter, stateBytesAfter};
-ghost use Rattle.layout.specs.Bytes.{ragged, codingBytes, orderSixBytes, encodingBytes};
-ghost use Rattle.quantising_lent.specs.Calls.{quantisedFrom, filledFrom};
+ghost use Rattle.byte_coding.specs.Bytes.{ragged, codingBytes, orderSixBytes, encodingBytes};
+ghost use Rattle.quantising.specs.Lent.{quantisedFrom, filledFrom};
+ghost use Rattle.sample_8.specs.Width.{W};
 
 // The accumulator rule alone: 0 where it holds, 3 where it fails.
 #[no_mangle]
 pub extern "C" fn claspotter_admits_8(bias: i64, weights: &[i32]) -> u32
-    ensures { λ r. ⌜ r ≡ numberOf (refuse (not (admitted 8 bias (now (weights .entry)))) Overflows Done) ⌝ }
+    ensures { λ r. ⌜ r ≡ numberOf (refuse (not (admitted W bias (now (weights .entry)))) Overflows Done) ⌝ }
 {
-    if accumulator::is_admitted(Width::Eight, bias, weights) {
+    if admission::accumulator::is_admitted(WIDTH, bias, weights) {
         return kinds::number(Answer::Done);
     }
     kinds::number(Answer::Overflows)
@@ -33,14 +35,14 @@ pub extern "C" fn claspotter_encode_u8(
     shift: u32,
     bias: i64,
     weights: &[i32],
-    samples: &mut [u8],
-    state: &mut [u8],
+    samples: &mut [Sample],
+    state: &mut [Sample],
 ) -> u32
-    ensures { λ r. ⌜ r ≡ numberOf (encodingRefusal 8 (configOf order shift bias (now (weights .entry))) (length (now (state .entry))) (length (now (samples .entry)))) ⌝ }
-    ensures { λ _. ⌜ now (samples .exit) ≡ samplesAfter 8 (configOf order shift bias (now (weights .entry))) (encodingRefusal 8 (configOf order shift bias (now (weights .entry))) (length (now (state .entry))) (length (now (samples .entry)))) (now (samples .entry)) ⌝ }
-    ensures { λ _. ⌜ now (state .exit) ≡ savedAfter (configOf order shift bias (now (weights .entry))) (encodingRefusal 8 (configOf order shift bias (now (weights .entry))) (length (now (state .entry))) (length (now (samples .entry)))) (now (samples .entry)) (now (state .entry)) ⌝ }
+    ensures { λ r. ⌜ r ≡ numberOf (encodingRefusal W (configOf order shift bias (now (weights .entry))) (length (now (state .entry))) (length (now (samples .entry)))) ⌝ }
+    ensures { λ _. ⌜ now (samples .exit) ≡ samplesAfter W (configOf order shift bias (now (weights .entry))) (encodingRefusal W (configOf order shift bias (now (weights .entry))) (length (now (state .entry))) (length (now (samples .entry)))) (now (samples .entry)) ⌝ }
+    ensures { λ _. ⌜ now (state .exit) ≡ savedAfter (configOf order shift bias (now (weights .entry))) (encodingRefusal W (configOf order shift bias (now (weights .entry))) (length (now (state .entry))) (length (now (samples .entry)))) (now (samples .entry)) (now (state .entry)) ⌝ }
 {
-    kinds::number(width_8::encoding_8::encode_into(
+    kinds::number(encoding_8::encode_into(
         Order(order),
         Shift(shift),
         bias,
@@ -57,21 +59,14 @@ pub extern "C" fn claspotter_decode_u8(
     shift: u32,
     bias: i64,
     weights: &[i32],
-    state: &mut [u8],
-    piece: &mut [u8],
+    state: &mut [Sample],
+    piece: &mut [Sample],
 ) -> u32
-    ensures { λ r. ⌜ r ≡ numberOf (codingRefusal 8 (configOf order shift bias (now (weights .entry))) (length (now (state .entry)))) ⌝ }
-    ensures { λ _. ⌜ now (piece .exit) ≡ pieceAfter 8 (configOf order shift bias (now (weights .entry))) (codingRefusal 8 (configOf order shift bias (now (weights .entry))) (length (now (state .entry)))) (now (state .entry)) (now (piece .entry)) ⌝ }
-    ensures { λ _. ⌜ now (state .exit) ≡ stateAfter 8 (configOf order shift bias (now (weights .entry))) (codingRefusal 8 (configOf order shift bias (now (weights .entry))) (length (now (state .entry)))) (now (state .entry)) (now (piece .entry)) ⌝ }
+    ensures { λ r. ⌜ r ≡ numberOf (codingRefusal W (configOf order shift bias (now (weights .entry))) (length (now (state .entry)))) ⌝ }
+    ensures { λ _. ⌜ now (piece .exit) ≡ pieceAfter W (configOf order shift bias (now (weights .entry))) (codingRefusal W (configOf order shift bias (now (weights .entry))) (length (now (state .entry)))) (now (state .entry)) (now (piece .entry)) ⌝ }
+    ensures { λ _. ⌜ now (state .exit) ≡ stateAfter W (configOf order shift bias (now (weights .entry))) (codingRefusal W (configOf order shift bias (now (weights .entry))) (length (now (state .entry)))) (now (state .entry)) (now (piece .entry)) ⌝ }
 {
-    kinds::number(width_8::conv1_8::decode_into(
-        Order(order),
-        Shift(shift),
-        bias,
-        weights,
-        state,
-        piece,
-    ))
+    kinds::number(decoding_8::decode_into(Order(order), Shift(shift), bias, weights, state, piece))
 }
 
 // The same by the general way, at order 6 too.
@@ -81,14 +76,14 @@ pub extern "C" fn claspotter_decode_general_u8(
     shift: u32,
     bias: i64,
     weights: &[i32],
-    state: &mut [u8],
-    piece: &mut [u8],
+    state: &mut [Sample],
+    piece: &mut [Sample],
 ) -> u32
-    ensures { λ r. ⌜ r ≡ numberOf (codingRefusal 8 (configOf order shift bias (now (weights .entry))) (length (now (state .entry)))) ⌝ }
-    ensures { λ _. ⌜ now (piece .exit) ≡ pieceAfter 8 (configOf order shift bias (now (weights .entry))) (codingRefusal 8 (configOf order shift bias (now (weights .entry))) (length (now (state .entry)))) (now (state .entry)) (now (piece .entry)) ⌝ }
-    ensures { λ _. ⌜ now (state .exit) ≡ stateAfter 8 (configOf order shift bias (now (weights .entry))) (codingRefusal 8 (configOf order shift bias (now (weights .entry))) (length (now (state .entry)))) (now (state .entry)) (now (piece .entry)) ⌝ }
+    ensures { λ r. ⌜ r ≡ numberOf (codingRefusal W (configOf order shift bias (now (weights .entry))) (length (now (state .entry)))) ⌝ }
+    ensures { λ _. ⌜ now (piece .exit) ≡ pieceAfter W (configOf order shift bias (now (weights .entry))) (codingRefusal W (configOf order shift bias (now (weights .entry))) (length (now (state .entry)))) (now (state .entry)) (now (piece .entry)) ⌝ }
+    ensures { λ _. ⌜ now (state .exit) ≡ stateAfter W (configOf order shift bias (now (weights .entry))) (codingRefusal W (configOf order shift bias (now (weights .entry))) (length (now (state .entry)))) (now (state .entry)) (now (piece .entry)) ⌝ }
 {
-    kinds::number(width_8::decoding_8::decode_into(
+    kinds::number(general_way_8::decode_into(
         Order(order),
         Shift(shift),
         bias,
@@ -105,14 +100,14 @@ pub extern "C" fn claspotter_decode_order_6_u8(
     shift: u32,
     bias: i64,
     weights: &[i32],
-    state: &mut [u8],
-    piece: &mut [u8],
+    state: &mut [Sample],
+    piece: &mut [Sample],
 ) -> u32
-    ensures { λ r. ⌜ r ≡ numberOf (orderSixRefusal 8 (configOf order shift bias (now (weights .entry))) (length (now (state .entry)))) ⌝ }
-    ensures { λ _. ⌜ now (piece .exit) ≡ pieceAfter 8 (configOf order shift bias (now (weights .entry))) (orderSixRefusal 8 (configOf order shift bias (now (weights .entry))) (length (now (state .entry)))) (now (state .entry)) (now (piece .entry)) ⌝ }
-    ensures { λ _. ⌜ now (state .exit) ≡ stateAfter 8 (configOf order shift bias (now (weights .entry))) (orderSixRefusal 8 (configOf order shift bias (now (weights .entry))) (length (now (state .entry)))) (now (state .entry)) (now (piece .entry)) ⌝ }
+    ensures { λ r. ⌜ r ≡ numberOf (orderSixRefusal W (configOf order shift bias (now (weights .entry))) (length (now (state .entry)))) ⌝ }
+    ensures { λ _. ⌜ now (piece .exit) ≡ pieceAfter W (configOf order shift bias (now (weights .entry))) (orderSixRefusal W (configOf order shift bias (now (weights .entry))) (length (now (state .entry)))) (now (state .entry)) (now (piece .entry)) ⌝ }
+    ensures { λ _. ⌜ now (state .exit) ≡ stateAfter W (configOf order shift bias (now (weights .entry))) (orderSixRefusal W (configOf order shift bias (now (weights .entry))) (length (now (state .entry)))) (now (state .entry)) (now (piece .entry)) ⌝ }
 {
-    kinds::number(width_8::order_six_8::decode_order_6_into(
+    kinds::number(order_six_8::decode_order_6_into(
         Order(order),
         Shift(shift),
         bias,
@@ -132,11 +127,11 @@ pub extern "C" fn claspotter_encode_bytes_8(
     samples: &mut [u8],
     state: &mut [u8],
 ) -> u32
-    ensures { λ r. ⌜ r ≡ numberOf (encodingBytes 8 (bytesConfig order shift bias (now (weights .entry))) (ragged 8 (now (weights .entry)) (now (state .entry)) (now (samples .entry))) (now (state .entry)) (now (samples .entry))) ⌝ }
-    ensures { λ _. ⌜ now (samples .exit) ≡ samplesBytesAfter 8 (bytesConfig order shift bias (now (weights .entry))) (encodingBytes 8 (bytesConfig order shift bias (now (weights .entry))) (ragged 8 (now (weights .entry)) (now (state .entry)) (now (samples .entry))) (now (state .entry)) (now (samples .entry))) (now (samples .entry)) ⌝ }
-    ensures { λ _. ⌜ now (state .exit) ≡ savedBytesAfter 8 (bytesConfig order shift bias (now (weights .entry))) (encodingBytes 8 (bytesConfig order shift bias (now (weights .entry))) (ragged 8 (now (weights .entry)) (now (state .entry)) (now (samples .entry))) (now (state .entry)) (now (samples .entry))) (now (samples .entry)) (now (state .entry)) ⌝ }
+    ensures { λ r. ⌜ r ≡ numberOf (encodingBytes W (bytesConfig order shift bias (now (weights .entry))) (ragged W (now (weights .entry)) (now (state .entry)) (now (samples .entry))) (now (state .entry)) (now (samples .entry))) ⌝ }
+    ensures { λ _. ⌜ now (samples .exit) ≡ samplesBytesAfter W (bytesConfig order shift bias (now (weights .entry))) (encodingBytes W (bytesConfig order shift bias (now (weights .entry))) (ragged W (now (weights .entry)) (now (state .entry)) (now (samples .entry))) (now (state .entry)) (now (samples .entry))) (now (samples .entry)) ⌝ }
+    ensures { λ _. ⌜ now (state .exit) ≡ savedBytesAfter W (bytesConfig order shift bias (now (weights .entry))) (encodingBytes W (bytesConfig order shift bias (now (weights .entry))) (ragged W (now (weights .entry)) (now (state .entry)) (now (samples .entry))) (now (state .entry)) (now (samples .entry))) (now (samples .entry)) (now (state .entry)) ⌝ }
 {
-    kinds::number(width_8::byte_encoding_8::encode(
+    kinds::number(byte_coding_8::encoder::encode(
         Order(order),
         Shift(shift),
         bias,
@@ -156,11 +151,11 @@ pub extern "C" fn claspotter_decode_bytes_8(
     state: &mut [u8],
     piece: &mut [u8],
 ) -> u32
-    ensures { λ r. ⌜ r ≡ numberOf (codingBytes 8 (bytesConfig order shift bias (now (weights .entry))) (ragged 8 (now (weights .entry)) (now (state .entry)) (now (piece .entry))) (now (state .entry))) ⌝ }
-    ensures { λ _. ⌜ now (piece .exit) ≡ pieceBytesAfter 8 (bytesConfig order shift bias (now (weights .entry))) (codingBytes 8 (bytesConfig order shift bias (now (weights .entry))) (ragged 8 (now (weights .entry)) (now (state .entry)) (now (piece .entry))) (now (state .entry))) (now (state .entry)) (now (piece .entry)) ⌝ }
-    ensures { λ _. ⌜ now (state .exit) ≡ stateBytesAfter 8 (bytesConfig order shift bias (now (weights .entry))) (codingBytes 8 (bytesConfig order shift bias (now (weights .entry))) (ragged 8 (now (weights .entry)) (now (state .entry)) (now (piece .entry))) (now (state .entry))) (now (state .entry)) (now (piece .entry)) ⌝ }
+    ensures { λ r. ⌜ r ≡ numberOf (codingBytes W (bytesConfig order shift bias (now (weights .entry))) (ragged W (now (weights .entry)) (now (state .entry)) (now (piece .entry))) (now (state .entry))) ⌝ }
+    ensures { λ _. ⌜ now (piece .exit) ≡ pieceBytesAfter W (bytesConfig order shift bias (now (weights .entry))) (codingBytes W (bytesConfig order shift bias (now (weights .entry))) (ragged W (now (weights .entry)) (now (state .entry)) (now (piece .entry))) (now (state .entry))) (now (state .entry)) (now (piece .entry)) ⌝ }
+    ensures { λ _. ⌜ now (state .exit) ≡ stateBytesAfter W (bytesConfig order shift bias (now (weights .entry))) (codingBytes W (bytesConfig order shift bias (now (weights .entry))) (ragged W (now (weights .entry)) (now (state .entry)) (now (piece .entry))) (now (state .entry))) (now (state .entry)) (now (piece .entry)) ⌝ }
 {
-    kinds::number(width_8::byte_decoding_8::decode(
+    kinds::number(byte_coding_8::decoder::decode(
         Order(order),
         Shift(shift),
         bias,
@@ -180,11 +175,11 @@ pub extern "C" fn claspotter_decode_general_bytes_8(
     state: &mut [u8],
     piece: &mut [u8],
 ) -> u32
-    ensures { λ r. ⌜ r ≡ numberOf (codingBytes 8 (bytesConfig order shift bias (now (weights .entry))) (ragged 8 (now (weights .entry)) (now (state .entry)) (now (piece .entry))) (now (state .entry))) ⌝ }
-    ensures { λ _. ⌜ now (piece .exit) ≡ pieceBytesAfter 8 (bytesConfig order shift bias (now (weights .entry))) (codingBytes 8 (bytesConfig order shift bias (now (weights .entry))) (ragged 8 (now (weights .entry)) (now (state .entry)) (now (piece .entry))) (now (state .entry))) (now (state .entry)) (now (piece .entry)) ⌝ }
-    ensures { λ _. ⌜ now (state .exit) ≡ stateBytesAfter 8 (bytesConfig order shift bias (now (weights .entry))) (codingBytes 8 (bytesConfig order shift bias (now (weights .entry))) (ragged 8 (now (weights .entry)) (now (state .entry)) (now (piece .entry))) (now (state .entry))) (now (state .entry)) (now (piece .entry)) ⌝ }
+    ensures { λ r. ⌜ r ≡ numberOf (codingBytes W (bytesConfig order shift bias (now (weights .entry))) (ragged W (now (weights .entry)) (now (state .entry)) (now (piece .entry))) (now (state .entry))) ⌝ }
+    ensures { λ _. ⌜ now (piece .exit) ≡ pieceBytesAfter W (bytesConfig order shift bias (now (weights .entry))) (codingBytes W (bytesConfig order shift bias (now (weights .entry))) (ragged W (now (weights .entry)) (now (state .entry)) (now (piece .entry))) (now (state .entry))) (now (state .entry)) (now (piece .entry)) ⌝ }
+    ensures { λ _. ⌜ now (state .exit) ≡ stateBytesAfter W (bytesConfig order shift bias (now (weights .entry))) (codingBytes W (bytesConfig order shift bias (now (weights .entry))) (ragged W (now (weights .entry)) (now (state .entry)) (now (piece .entry))) (now (state .entry))) (now (state .entry)) (now (piece .entry)) ⌝ }
 {
-    kinds::number(width_8::byte_decoding_8::decode_general(
+    kinds::number(byte_coding_8::decoder::decode_general(
         Order(order),
         Shift(shift),
         bias,
@@ -204,11 +199,11 @@ pub extern "C" fn claspotter_decode_order_6_bytes_8(
     state: &mut [u8],
     piece: &mut [u8],
 ) -> u32
-    ensures { λ r. ⌜ r ≡ numberOf (orderSixBytes 8 (bytesConfig order shift bias (now (weights .entry))) (ragged 8 (now (weights .entry)) (now (state .entry)) (now (piece .entry))) (now (state .entry))) ⌝ }
-    ensures { λ _. ⌜ now (piece .exit) ≡ pieceBytesAfter 8 (bytesConfig order shift bias (now (weights .entry))) (orderSixBytes 8 (bytesConfig order shift bias (now (weights .entry))) (ragged 8 (now (weights .entry)) (now (state .entry)) (now (piece .entry))) (now (state .entry))) (now (state .entry)) (now (piece .entry)) ⌝ }
-    ensures { λ _. ⌜ now (state .exit) ≡ stateBytesAfter 8 (bytesConfig order shift bias (now (weights .entry))) (orderSixBytes 8 (bytesConfig order shift bias (now (weights .entry))) (ragged 8 (now (weights .entry)) (now (state .entry)) (now (piece .entry))) (now (state .entry))) (now (state .entry)) (now (piece .entry)) ⌝ }
+    ensures { λ r. ⌜ r ≡ numberOf (orderSixBytes W (bytesConfig order shift bias (now (weights .entry))) (ragged W (now (weights .entry)) (now (state .entry)) (now (piece .entry))) (now (state .entry))) ⌝ }
+    ensures { λ _. ⌜ now (piece .exit) ≡ pieceBytesAfter W (bytesConfig order shift bias (now (weights .entry))) (orderSixBytes W (bytesConfig order shift bias (now (weights .entry))) (ragged W (now (weights .entry)) (now (state .entry)) (now (piece .entry))) (now (state .entry))) (now (state .entry)) (now (piece .entry)) ⌝ }
+    ensures { λ _. ⌜ now (state .exit) ≡ stateBytesAfter W (bytesConfig order shift bias (now (weights .entry))) (orderSixBytes W (bytesConfig order shift bias (now (weights .entry))) (ragged W (now (weights .entry)) (now (state .entry)) (now (piece .entry))) (now (state .entry))) (now (state .entry)) (now (piece .entry)) ⌝ }
 {
-    kinds::number(width_8::byte_decoding_8::decode_order_6(
+    kinds::number(byte_coding_8::decoder::decode_order_6(
         Order(order),
         Shift(shift),
         bias,
@@ -225,23 +220,17 @@ pub extern "C" fn claspotter_quantise_8(
     order: usize,
     fitted: &[f64],
     centred_bias: f64,
-    centre: u8,
+    centre: Sample,
     weights: &mut [i32],
     shift: &mut u32,
     bias: &mut i64,
 ) -> u32
-    ensures { λ r. ⌜ r ≡ numberOf (quantisedFrom 8 order (now (fitted .entry)) centre «centred_bias» (now (weights .entry)) .answer) ⌝ }
-    ensures { λ _. ⌜ now (weights .exit) ≡ filledFrom 8 order (now (fitted .entry)) centre «centred_bias» (now (weights .entry)) ⌝ }
-    ensures { λ _. ⌜ now (shift .exit) ≡ quantisedFrom 8 order (now (fitted .entry)) centre «centred_bias» (now (weights .entry)) .shift .0 ⌝ }
-    ensures { λ _. ⌜ now (bias .exit) ≡ quantisedFrom 8 order (now (fitted .entry)) centre «centred_bias» (now (weights .entry)) .bias ⌝ }
+    ensures { λ r. ⌜ r ≡ numberOf (quantisedFrom W order (now (fitted .entry)) centre «centred_bias» (now (weights .entry)) .answer) ⌝ }
+    ensures { λ _. ⌜ now (weights .exit) ≡ filledFrom W order (now (fitted .entry)) centre «centred_bias» (now (weights .entry)) ⌝ }
+    ensures { λ _. ⌜ now (shift .exit) ≡ quantisedFrom W order (now (fitted .entry)) centre «centred_bias» (now (weights .entry)) .shift .0 ⌝ }
+    ensures { λ _. ⌜ now (bias .exit) ≡ quantisedFrom W order (now (fitted .entry)) centre «centred_bias» (now (weights .entry)) .bias ⌝ }
 {
-    let quantised = quantising_lent::w8::quantise(
-        Order(order),
-        fitted,
-        centred_bias,
-        centre,
-        weights,
-    );
+    let quantised = quantising_8::quantise(Order(order), fitted, centred_bias, centre, weights);
     let answer = quantised.answer;
     let whole_bias = quantised.bias;
     *shift = quantised.shift.0;

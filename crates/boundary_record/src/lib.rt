@@ -2,13 +2,13 @@
 // function answers with a refusal number; a refusal changes no lent slice. include/claspotter.h describes it.
 use kinds::Order;
 use kinds::Shift;
-use record_numbers::Numbers;
+use record_numbers::numbers::Numbers;
 ghost use mathlib.Core.Path.{_≡_};
 ghost use lib.ListN.{length};
 ghost use Rattle.kinds.specs.Answers.{numberOf};
 ghost use Rattle.record.specs.Writing.{flagValue};
 ghost use Rattle.record_numbers.specs.Numbers.{given};
-ghost use Rattle.record_by_numbers.specs.Calls.{readNumbers, weightsAfter, writeNumbers, bytesAfterNumbers};
+ghost use Rattle.record_numbers.specs.Calls.{readNumbers, weightsAfter, writeNumbers, bytesAfterNumbers};
 
 // Reads the record at the start of the bytes; `variants` is false for files that hold only an order. What the variant does not have
 // is 0. Any content of the numbers at entry will do, which is why the flag is a number, 0 or 1, and no bool.
@@ -37,7 +37,7 @@ pub extern "C" fn claspotter_read_record(
     ensures { λ _. ⌜ now (weights .exit) ≡ weightsAfter (now (bytes .entry)) variants (now (weights .entry)) ⌝ }
     ensures { λ _. ⌜ now (bits .exit) ≡ readNumbers (now (bytes .entry)) variants (now (weights .entry)) .bits ⌝ }
 {
-    let readout = record_by_numbers::read(bytes, variants, weights);
+    let readout = record_numbers::read(bytes, variants, weights);
     let numbers = readout.numbers;
     *variant = numbers.variant;
     *order = numbers.order.0;
@@ -80,7 +80,7 @@ pub extern "C" fn claspotter_write_record(
         Shift(quantization),
         bias,
     );
-    let written = record_by_numbers::write(numbers, weights, bytes);
+    let written = record_numbers::write(numbers, weights, bytes);
     *bits = written.bits;
     let answer = written.answer;
     kinds::number(answer)

@@ -7,11 +7,11 @@ use trial::Case;
 use trial::Way;
 ghost use Prim.Native.Nat.{_≤_};
 
+mod coder_16;
+mod coder_32;
+mod coder_8;
 mod saying;
 mod trial;
-mod w16;
-mod w32;
-mod w8;
 
 // Weights that the three widths admit, whatever the order.
 const NARROW: [i32; 33] = [

@@ -14,10 +14,10 @@ pub(crate) fn say_number(n: u64) {
 pub(crate) fn say_signed(z: i64) {
     if z < 0 {
         say(b" -");
-        io::print_decimal(STDOUT_FILENO, limits::magnitude(z));
+        io::print_decimal(STDOUT_FILENO, admission::limits::magnitude(z));
         return;
     }
-    say_number(limits::magnitude(z));
+    say_number(admission::limits::magnitude(z));
 }
 
 fn mixed(sum: u64, x: u64) -> u64

@@ -64,9 +64,9 @@ fn call(c: Case, weights: [i32; 33], way: Way, from: usize, end: usize, tape: Ta
 {
     let width = c.width;
     match width {
-        8 => crate::w8::call(c, weights, way, from, end, tape),
-        16 => crate::w16::call(c, weights, way, from, end, tape),
-        _ => crate::w32::call(c, weights, way, from, end, tape),
+        8 => crate::coder_8::call(c, weights, way, from, end, tape),
+        16 => crate::coder_16::call(c, weights, way, from, end, tape),
+        _ => crate::coder_32::call(c, weights, way, from, end, tape),
     }
 }
 

@@ -10,9 +10,9 @@ use lib.IntN.{ℤ}
 use lib.ListN.{length, getD, take, drop, set, length-set, length-map, length-take, length-drop}
 use lib.Seq.{getD-take, getD-drop, drop-cons, drop-set-add, take-suc-set, length-take-le}
 use Rattle.rule.specs.Coding.{toggled, decodedPiece, newState}
-use Rattle.decoding_steps.specs.Steps.{Decodes}
-use Rattle.decoding_steps.proofs.Batches as batches
-use Rattle.decoding_steps.proofs.Turning as turning
+use Rattle.decoding.specs.Steps.{Decodes}
+use Rattle.decoding.proofs.Batches as batches
+use Rattle.decoding.proofs.Turning as turning
 
 -- the k samples from i on, as a sample is written behind them
 slid : (k : ℕ) (l : List ℕ) (i y : ℕ) → 1 ≤ k → i + k < length l → take k (drop (i + 1) (set l (i + k) y)) ≡ drop 1 (take k (drop i l)) ++ y ∷ []

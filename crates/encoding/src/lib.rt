@@ -1,2 +1,1 @@
-// Encoding in place, at each width. `w16` is the source of the other two: tools/widths.
-pub mod w16;
+// Nothing runs here: proofs/ has the laws of encoding, over the width W.

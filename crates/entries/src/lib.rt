@@ -43,3 +43,5 @@ pub fn write_entry(bytes: &mut [u8], at: usize, width: usize, value: u64)
         i += 1;
     }
 }
+
+pub mod weights;

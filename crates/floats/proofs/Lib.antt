@@ -1,3 +1,6 @@
 pub mod Compared
 pub mod Unpacking
 pub mod Exponents
+pub mod WholeParts
+pub mod Signs
+pub mod Holding

@@ -68,3 +68,5 @@ pub fn exponent(x: f64) -> u64
     let zeros = u64::leading_zeros(parts.digits);
     (63 - (zeros as u64)) + parts.shift
 }
+
+pub mod rounding;

@@ -1,11 +1,11 @@
 // Decodes from states by value whose places past the order hold something, and whose counts are right or forged, with the table's T1 at 16
 // bits. A line has the count, the answer's number, the first four places of the state's array afterwards, its count, and the piece.
-use decoding_by_value::w16::Decoded;
+use decoding_16::by_value::Decoded;
 use kinds::Order;
 use kinds::SampleCount;
 use kinds::Shift;
-use kinds::State16;
 use libc::STDOUT_FILENO;
+use sample_16::State;
 
 fn say_number(n: u64) {
     io::write_all(STDOUT_FILENO, b" ");
@@ -42,12 +42,12 @@ fn decode(count: usize) {
     samples[1] = 77;
     samples[2] = 78;
     samples[3] = 79;
-    let state = State16 {
+    let state = State {
         samples,
         count: SampleCount(count),
     };
     let mut piece: [u16; 1] = [32770];
-    let decoded = decoding_by_value::w16::decode_in_place(
+    let decoded = decoding_16::by_value::decode_in_place(
         Order(1),
         Shift(0),
         0,

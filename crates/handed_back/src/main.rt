@@ -30,7 +30,7 @@ fn code(samples: &mut [u16]) {
     let weights: [i32; 2] = [-1, 2];
     let mut state: [u16; 2] = [0; 2];
     let mut number: u32 = 0;
-    let part = encoding_by_value::w16::encode(
+    let part = encoding_16::by_value::encode(
         Order(2),
         Shift(0),
         0,

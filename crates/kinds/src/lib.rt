@@ -18,21 +18,8 @@ pub struct Shift(pub u32);
 // How many samples a list of them holds.
 pub struct SampleCount(pub usize);
 
-// The samples that start the decoding of a piece, in the first `count` places of a fixed array; the places past them are never read.
-pub struct State8 {
-    pub samples: [u8; 32],
-    pub count: SampleCount,
-}
-
-pub struct State16 {
-    pub samples: [u16; 32],
-    pub count: SampleCount,
-}
-
-pub struct State32 {
-    pub samples: [u32; 32],
-    pub count: SampleCount,
-}
+// How many weights a list of them holds.
+pub struct WeightCount(pub usize);
 
 // What a call answers: done, or why it refused and left everything as it was.
 pub enum Answer {

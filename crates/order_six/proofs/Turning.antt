@@ -6,8 +6,8 @@ use native.Mathlib.Omega.{arith}
 use lib.IntN.{ℤ, pos}
 use lib.ListN.{length, getD, set}
 use Rattle.rule.specs.Prediction.{settle, prediction}
-use Rattle.decoding_steps.proofs.Batches as batches
-use Rattle.decoding_steps.proofs.Turning as turning
+use Rattle.decoding.proofs.Batches as batches
+use Rattle.decoding.proofs.Turning as turning
 use Rattle.order_six.specs.Running.{Runs, shifted}
 use Rattle.order_six.proofs.Running as running
 

@@ -1,2 +1,1 @@
-// Decoding at order 6, with six running sums, at each width. `w16` is the source of the other two: tools/widths.
-pub mod w16;
+// Nothing runs here: specs/ and proofs/ have the laws of the six running sums, over the width W.

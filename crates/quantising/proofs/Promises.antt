@@ -18,12 +18,12 @@ use Rattle.rule.specs.Numbers.{accumulator}
 use Rattle.rule.specs.Prediction.{admitted}
 use Rattle.rule.specs.Refusals.{orderFits}
 use Rattle.quantising.specs.declared.Fitted.{Fitted}
-use Rattle.scaling.specs.declared.Scale.{Scale}
-use Rattle.scaling.specs.declared.Scale.the-variants.{Nothing, By}
-use Rattle.scaling.specs.Steps.{float, greatestShift, scaleOf}
+use Rattle.quantising.specs.declared.scaling.Scale.{Scale}
+use Rattle.quantising.specs.declared.scaling.Scale.the-variants.{Nothing, By}
+use Rattle.quantising.specs.Scale.{float, greatestShift, scaleOf}
 use Rattle.quantising.specs.Steps.{weightOf, weightsHold, biasOf, biasHolds, Outcome, none, found, only, settled, outcome}
 use Rattle.quantising.specs.Calls.{outcomeAt, refusal, handedBack, leftIn, quantised, filled}
-use Rattle.scaling.proofs.Scaling.{shift-fits}
+use Rattle.quantising.proofs.Scales.{shift-fits}
 use Rattle.quantising.proofs.Settling.{nothing-settled}
 
 -- a configuration that the coders take and the record holds

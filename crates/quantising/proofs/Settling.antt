@@ -10,11 +10,11 @@ use lib.ListN.{take}
 use lib.Pow.{pow-lt, pow-mono}
 use lib.Ieee.{Float, binary64, inFloat, ofInt}
 use Rattle.rule.specs.Prediction.{admitted}
-use Rattle.scaling.specs.Steps.{float, scaleOf}
+use Rattle.quantising.specs.Scale.{float, scaleOf}
 use Rattle.quantising.specs.Steps.{weightOf, weightsHold, biasOf, biasHolds, Outcome, none, found, only, settled, outcome}
 use Rattle.quantising.specs.Stages.{asOutcome}
 use Rattle.quantising.specs.declared.Configuration.{Configuration}
-use Rattle.scaling.specs.declared.Scale.the-variants.{Nothing, By}
+use Rattle.quantising.specs.declared.scaling.Scale.the-variants.{Nothing, By}
 
 -- ---- 2^q, as (1 << q) as f64 has it
 module _ (q : ℕ) (h : q ≤ 31) where

@@ -8,9 +8,9 @@ use lib.IntN.{ℤ}
 use lib.ListN.{length, getD, take, drop, set}
 use lib.Seq.{take-suc-set}
 use lib.Ieee.{Float, nan}
-use Rattle.rounding.specs.Wholes.{holds}
-use Rattle.scaling.specs.Steps.{_⊗_}
-use Rattle.scaling.proofs.Turns.{next-weight}
+use Rattle.floats.specs.Wholes.{holds}
+use Rattle.quantising.specs.Scale.{_⊗_}
+use Rattle.quantising.proofs.Adding.{next-weight}
 use Rattle.quantising.specs.Steps.{weightOf, weightsHold}
 
 module _ (ws : List Float) (k i : ℕ) (fits : k ≤ length ws) (h : i < k) (p : Float) where

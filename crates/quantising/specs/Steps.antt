@@ -1,14 +1,14 @@
--- Document 01, "Quantising float weights": steps 5 and 6, over the width W; steps 1 to 4, which choose the shift, are Rattle.scaling.specs.Steps.
+-- Document 01, "Quantising float weights": steps 5 and 6, over the width W; steps 1 to 4, which choose the shift, are Rattle.quantising.specs.Scale.
 use mathlib.Core.Bool.{Bool, true, false, _&&_}
 use mathlib.Core.List.{List, [], _∷_, map}
 use Prim.Native.Nat.{ℕ, _^_}
 use lib.IntN.{ℤ}
 use lib.Ieee.{Float}
-use Rattle.rounding.specs.Wholes.{roundedOf, cutOf, holds}
+use Rattle.floats.specs.Wholes.{roundedOf, cutOf, holds}
 use Rattle.rule.specs.Prediction.{admitted}
-use Rattle.scaling.specs.declared.Scale.{Scale}
-use Rattle.scaling.specs.declared.Scale.the-variants.{Nothing, By}
-use Rattle.scaling.specs.Steps.{_⊗_, float, scaleOf}
+use Rattle.quantising.specs.declared.scaling.Scale.{Scale}
+use Rattle.quantising.specs.declared.scaling.Scale.the-variants.{Nothing, By}
+use Rattle.quantising.specs.Scale.{_⊗_, float, scaleOf}
 
 -- ---- 5. with p for 2^q: each weight times p to the nearest integer, halves away from zero, in 32 bits; the float bias times p cut toward zero, in 64
 abbrev pub weightOf : Float → Float → ℤ

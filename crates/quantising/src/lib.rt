@@ -1,12 +1,12 @@
 // Quantising float weights: the tail of the Rust's `choose_config`, at any width. `scaling` has its steps 1 to 4; the rounding and the
 // cut of step 5 are worked out in whole numbers.
+use crate::scaling::Scale;
+use crate::scaling::choose_scale;
+use floats::rounding::Whole;
 use kinds::Answer;
 use kinds::Order;
 use kinds::Shift;
 use kinds::Width;
-use rounding::Whole;
-use scaling::Scale;
-use scaling::choose_scale;
 ghost use mathlib.Core.Path.{_≡_};
 ghost use mathlib.Core.Bool.{false, cond};
 ghost use Prim.Native.Nat.{_≤_};
@@ -53,7 +53,7 @@ fn round_weights(weights: [f64; 32], order: usize, factor: f64) -> RoundedWeight
     let mut rounded = [0i32; 32];
     let mut i = 0;
     while i < order {
-        let whole = rounding::round_away(weights[i] * factor, 32);
+        let whole = floats::rounding::round_away(weights[i] * factor, 32);
         let Whole::At(w) = whole else {
             return RoundedWeights {
                 fit: false,
@@ -100,12 +100,12 @@ fn configure(
     if !rounded.fit {
         return no_configuration();
     }
-    let cut = rounding::cut(float_bias * factor, 64);
+    let cut = floats::rounding::cut(float_bias * factor, 64);
     let Whole::At(bias) = cut else {
         return no_configuration();
     };
     let whole = rounded.weights;
-    if !accumulator::is_admitted(width, bias, &whole[..order]) {
+    if !admission::accumulator::is_admitted(width, bias, &whole[..order]) {
         return no_configuration();
     }
     Configuration {
@@ -155,11 +155,11 @@ fn hand_back(config: Configuration) -> Quantised
 }
 
 // Tests 1, 4 and 6 in this order.
-fn quantise(width: Width, fitted: Fitted, centre: u32, weights: &mut [i32]) -> Quantised
+pub fn quantise(width: Width, fitted: Fitted, centre: u32, weights: &mut [i32]) -> Quantised
     ensures { λ r. ⌜ (r ≡ quantised (bitsOf width) fitted centre (now (weights .entry))) × (now (weights .exit) ≡ filled (bitsOf width) fitted centre (now (weights .entry))) ⌝ }
 {
     let order = fitted.order;
-    if !limits::is_order(order) {
+    if !admission::limits::is_order(order) {
         return refused(Answer::BadOrder);
     }
     if weights.len() != order.0 {
@@ -172,21 +172,5 @@ fn quantise(width: Width, fitted: Fitted, centre: u32, weights: &mut [i32]) -> Q
     hand_back(config)
 }
 
-// The centre is a sample, so its type is the width's and every value of it is in range.
-pub fn quantise_8(fitted: Fitted, centre: u8, weights: &mut [i32]) -> Quantised
-    ensures { λ r. ⌜ (r ≡ quantised 8 fitted centre (now (weights .entry))) × (now (weights .exit) ≡ filled 8 fitted centre (now (weights .entry))) ⌝ }
-{
-    quantise(Width::Eight, fitted, centre as u32, weights)
-}
-
-pub fn quantise_16(fitted: Fitted, centre: u16, weights: &mut [i32]) -> Quantised
-    ensures { λ r. ⌜ (r ≡ quantised 16 fitted centre (now (weights .entry))) × (now (weights .exit) ≡ filled 16 fitted centre (now (weights .entry))) ⌝ }
-{
-    quantise(Width::Sixteen, fitted, centre as u32, weights)
-}
-
-pub fn quantise_32(fitted: Fitted, centre: u32, weights: &mut [i32]) -> Quantised
-    ensures { λ r. ⌜ (r ≡ quantised 32 fitted centre (now (weights .entry))) × (now (weights .exit) ≡ filled 32 fitted centre (now (weights .entry))) ⌝ }
-{
-    quantise(Width::ThirtyTwo, fitted, centre, weights)
-}
+pub mod lent;
+pub mod scaling;

@@ -1,10 +1,10 @@
 // Document 01's worked examples of quantising, and the edges of its steps. A line is: the answer's number, the shift, the bias, and the
 // lent slice after the call, which held 77 at each place before it.
+use floats::rounding::Whole;
 use kinds::Order;
 use libc::STDOUT_FILENO;
 use quantising::Fitted;
 use quantising::Quantised;
-use rounding::Whole;
 
 fn print(text: &[u8]) {
     io::write_all(STDOUT_FILENO, text);
@@ -68,19 +68,19 @@ fn one(weight: f64, bias: f64) -> Fitted {
 
 fn at_8(fit: Fitted, centre: u8) {
     let mut slice = [77i32; 1];
-    let done = quantising::quantise_8(fit, centre, &mut slice);
+    let done = quantising_8::quantise_fitted(fit, centre, &mut slice);
     print_line(b"8: ", done, &slice);
 }
 
 fn at_16(fit: Fitted, centre: u16) {
     let mut slice = [77i32; 1];
-    let done = quantising::quantise_16(fit, centre, &mut slice);
+    let done = quantising_16::quantise_fitted(fit, centre, &mut slice);
     print_line(b"16: ", done, &slice);
 }
 
 fn at_32(fit: Fitted, centre: u32) {
     let mut slice = [77i32; 1];
-    let done = quantising::quantise_32(fit, centre, &mut slice);
+    let done = quantising_32::quantise_fitted(fit, centre, &mut slice);
     print_line(b"32: ", done, &slice);
 }
 
@@ -95,13 +95,13 @@ fn at_each(weight: f64, bias: f64) {
 fn two_at_each(first: f64, second: f64, bias: f64) {
     let fit = fitted(first, second, bias, 2);
     let mut slice = [77i32; 2];
-    let done = quantising::quantise_8(fit, 1, &mut slice);
+    let done = quantising_8::quantise_fitted(fit, 1, &mut slice);
     print_line(b"8: ", done, &slice);
     let mut slice16 = [77i32; 2];
-    let done16 = quantising::quantise_16(fit, 1, &mut slice16);
+    let done16 = quantising_16::quantise_fitted(fit, 1, &mut slice16);
     print_line(b"16: ", done16, &slice16);
     let mut slice32 = [77i32; 2];
-    let done32 = quantising::quantise_32(fit, 1, &mut slice32);
+    let done32 = quantising_32::quantise_fitted(fit, 1, &mut slice32);
     print_line(b"32: ", done32, &slice32);
 }
 
@@ -161,29 +161,29 @@ fn shifts() {
 
 fn rounded() {
     print(b"to 32 bits, to the nearest\n");
-    print_whole(rounding::round_away(2147483647.0, 32));
-    print_whole(rounding::round_away(2147483647.4999995, 32));
-    print_whole(rounding::round_away(2147483647.5, 32));
-    print_whole(rounding::round_away(2147483648.0, 32));
-    print_whole(rounding::round_away(-2147483648.0, 32));
-    print_whole(rounding::round_away(-2147483648.4999995, 32));
-    print_whole(rounding::round_away(-2147483648.5, 32));
-    print_whole(rounding::round_away(4503599627370495.5, 32));
-    print_whole(rounding::round_away(1.0 / 0.0, 32));
-    print_whole(rounding::round_away(0.0 / 0.0, 32));
-    print_whole(rounding::round_away(5e-324, 32));
+    print_whole(floats::rounding::round_away(2147483647.0, 32));
+    print_whole(floats::rounding::round_away(2147483647.4999995, 32));
+    print_whole(floats::rounding::round_away(2147483647.5, 32));
+    print_whole(floats::rounding::round_away(2147483648.0, 32));
+    print_whole(floats::rounding::round_away(-2147483648.0, 32));
+    print_whole(floats::rounding::round_away(-2147483648.4999995, 32));
+    print_whole(floats::rounding::round_away(-2147483648.5, 32));
+    print_whole(floats::rounding::round_away(4503599627370495.5, 32));
+    print_whole(floats::rounding::round_away(1.0 / 0.0, 32));
+    print_whole(floats::rounding::round_away(0.0 / 0.0, 32));
+    print_whole(floats::rounding::round_away(5e-324, 32));
 }
 
 fn cut() {
     print(b"to 64 bits, cut\n");
-    print_whole(rounding::cut(9223372036854774784.0, 64));
-    print_whole(rounding::cut(9223372036854775808.0, 64));
-    print_whole(rounding::cut(-9223372036854775808.0, 64));
-    print_whole(rounding::cut(-9223372036854777856.0, 64));
-    print_whole(rounding::cut(-0.9999999999999999, 64));
-    print_whole(rounding::cut(4503599627370495.5, 64));
-    print_whole(rounding::cut(-1.0 / 0.0, 64));
-    print_whole(rounding::cut(0.0 / 0.0, 64));
+    print_whole(floats::rounding::cut(9223372036854774784.0, 64));
+    print_whole(floats::rounding::cut(9223372036854775808.0, 64));
+    print_whole(floats::rounding::cut(-9223372036854775808.0, 64));
+    print_whole(floats::rounding::cut(-9223372036854777856.0, 64));
+    print_whole(floats::rounding::cut(-0.9999999999999999, 64));
+    print_whole(floats::rounding::cut(4503599627370495.5, 64));
+    print_whole(floats::rounding::cut(-1.0 / 0.0, 64));
+    print_whole(floats::rounding::cut(0.0 / 0.0, 64));
 }
 
 fn not_finite() {
@@ -227,7 +227,7 @@ fn all_places() {
         bias: 0.5,
         order: Order(32),
     };
-    let done = quantising::quantise_16(fit, 65535, &mut slice);
+    let done = quantising_16::quantise_fitted(fit, 65535, &mut slice);
     print_line(b"16: ", done, &slice);
 }
 

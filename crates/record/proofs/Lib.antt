@@ -1,3 +1,10 @@
 pub mod Signed
 pub mod Weights
 pub mod Refusals
+pub mod Put
+pub mod Walk
+pub mod Local
+pub mod Used
+pub mod Round
+pub mod Buffer
+pub mod Back

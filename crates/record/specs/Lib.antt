@@ -2,3 +2,4 @@ pub mod Widths
 pub mod Signed
 pub mod Reading
 pub mod Writing
+pub mod Records

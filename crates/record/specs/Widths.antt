@@ -1,5 +1,5 @@
 -- Document 01, "The delta record": the width of each field, in bits, and the limit of the window test.
-use Prim.Native.Nat.{ℕ, _+_, _*_}
+use Prim.Native.Nat.{ℕ, _+_, _-_, _*_, _^_}
 
 abbrev pub variantBits : ℕ
 variantBits = 4
@@ -18,6 +18,10 @@ stateBits = 4
 
 abbrev pub shiftBits : ℕ
 shiftBits = 5
+
+-- the greatest shift that its field holds
+abbrev pub greatestShift : ℕ
+greatestShift = 2 ^ shiftBits - 1
 
 abbrev pub biasBits : ℕ
 biasBits = 64

@@ -1,1 +1,2 @@
 pub mod Again
+pub mod Weights

@@ -9,7 +9,7 @@ use Rattle.record.specs.declared.DeltaEncoding.{DeltaEncoding}
 use Rattle.record.specs.declared.DeltaEncoding.the-variants.{NoOp, Consecutive, Lookback, Conv1}
 use Rattle.record.specs.declared.DeltaRecord.{DeltaRecord}
 use Rattle.record.specs.Reading.{noWeights}
-use Rattle.record_numbers.specs.declared.Numbers.{Numbers}
+use Rattle.record_numbers.specs.declared.numbers.Numbers.{Numbers}
 
 -- variant, order, window log, state log, flag, shift, bias
 abbrev pub given : ℕ → ℕ → ℕ → ℕ → Bool → ℕ → ℤ → Numbers

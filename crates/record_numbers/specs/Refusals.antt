@@ -5,7 +5,7 @@ use lib.Dec.{eqb, ltb}
 use Rattle.kinds.specs.declared.Answer.{Answer}
 use Rattle.kinds.specs.declared.Answer.the-variants.{Done, BadOrder, BadLength, UnknownVariant}
 use Rattle.kinds.specs.Answers.{refuse}
-use Rattle.record_numbers.specs.declared.Numbers.{Numbers}
+use Rattle.record_numbers.specs.declared.numbers.Numbers.{Numbers}
 use Rattle.rule.specs.Refusals.{orderFits}
 
 -- tests 1 and 4, for Conv1 alone

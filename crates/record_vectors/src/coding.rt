@@ -17,7 +17,7 @@ fn code(shift: Shift, bias: i64, order: Order, weights: [i32; 32]) {
         return;
     }
     let mut samples: [u8; 3] = [10, 12, 11];
-    let done = width_8::encoding_by_value_8::encode_in_place(
+    let done = encoding_8::by_value::encode_in_place(
         order,
         shift,
         bias,
@@ -33,7 +33,7 @@ fn code(shift: Shift, bias: i64, order: Order, weights: [i32; 32]) {
 
 fn read_and_code(bytes: &[u8]) {
     say(b"c");
-    let reading = record_read::read_from(bytes, true);
+    let reading = record_reading::read_from(bytes, true);
     let answer = reading.answer;
     say_number(kinds::number(answer) as u64);
     say_number(reading.bits as u64);

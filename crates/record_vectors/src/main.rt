@@ -133,12 +133,12 @@ fn read(bytes: &[u8], variants: bool) {
     } else {
         say(b" old:");
     }
-    say_reading(record_read::read_from(bytes, variants));
+    say_reading(record_reading::read_from(bytes, variants));
 }
 
 fn write_into(encoding: DeltaEncoding, weights: [i32; 32], buffer: &mut [u8]) {
     let delta = DeltaRecord { encoding, weights };
-    let w = record_write::write_to(delta, buffer);
+    let w = record_writing::write_to(delta, buffer);
     let answer = w.answer;
     say(b"w");
     say_encoding(encoding);
@@ -148,7 +148,7 @@ fn write_into(encoding: DeltaEncoding, weights: [i32; 32], buffer: &mut [u8]) {
     say_number(w.bits as u64);
     say_bytes(buffer);
     say(b"\n ");
-    say_reading(record_read::read_from(buffer, true));
+    say_reading(record_reading::read_from(buffer, true));
 }
 
 fn write(encoding: DeltaEncoding, weights: [i32; 32], room: usize) {
@@ -160,7 +160,7 @@ fn write(encoding: DeltaEncoding, weights: [i32; 32], room: usize) {
 }
 
 fn say_answer(bytes: &[u8]) {
-    let r = record_read::read_from(bytes, true);
+    let r = record_reading::read_from(bytes, true);
     let answer = r.answer;
     say_number(kinds::number(answer) as u64);
 }
@@ -180,7 +180,7 @@ fn say_answers(bytes: &[u8], end: usize) {
 fn truncate(encoding: DeltaEncoding, weights: [i32; 32]) {
     let mut buffer = [0u8; 144];
     let delta = DeltaRecord { encoding, weights };
-    let w = record_write::write_to(delta, &mut buffer);
+    let w = record_writing::write_to(delta, &mut buffer);
     let bits = w.bits;
     say(b"t");
     say_encoding(encoding);
@@ -230,7 +230,7 @@ fn answer_of(n: u64, variants: bool) -> u32
     requires { ⌜ n < 65536 ⌝ }
 {
     let bytes = [(n % 256) as u8, (n / 256) as u8];
-    let r = record_read::read_from(&bytes, variants);
+    let r = record_reading::read_from(&bytes, variants);
     let answer = r.answer;
     kinds::number(answer)
 }
@@ -260,11 +260,11 @@ fn there_and_back(n: u64, variants: bool) -> u64
     ensures { λ r. ⌜ r < 2 ^ 40 ⌝ }
 {
     let bytes = [(n % 256) as u8, (n / 256) as u8];
-    let r = record_read::read_from(&bytes, variants);
+    let r = record_reading::read_from(&bytes, variants);
     let delta = r.delta;
     let encoding = delta.encoding;
     let mut back = [255u8, 255u8];
-    let w = record_write::write_to(delta, &mut back);
+    let w = record_writing::write_to(delta, &mut back);
     let read = digest(encoding) + (r.bits % 64) as u64 * 65536;
     let written = wide(back[0]) + wide(back[1]) * 256 + (w.bits % 64) as u64 * 65536;
     read + written * 17

@@ -6,3 +6,4 @@ pub mod Wrapping
 pub mod Filling
 pub mod Windows
 pub mod Parts
+pub mod Extending

@@ -31,9 +31,9 @@ pub(crate) fn signed(bits: u64) -> i64 {
 
 pub(crate) fn signed_bits(z: i64) -> u64 {
     if z < 0 {
-        return std::num::wrapping_sub_u64(0, limits::magnitude(z));
+        return std::num::wrapping_sub_u64(0, admission::limits::magnitude(z));
     }
-    limits::magnitude(z)
+    admission::limits::magnitude(z)
 }
 
 // The least weight stands for what is none, so that sums differ.

@@ -30,9 +30,9 @@ fn run(numbers: [u64; 256], row: [u64; 1088]) -> u64 {
     let sum = crate::sums::with_weights(crate::sums::EMPTY, weights, c.order);
     let width = numbers[1];
     match width {
-        8 => crate::w8::code(c, weights, sum, row),
-        16 => crate::w16::code(c, weights, sum, row),
-        32 => crate::w32::code(c, weights, sum, row),
+        8 => crate::coder_8::code(c, weights, sum, row),
+        16 => crate::coder_16::code(c, weights, sum, row),
+        32 => crate::coder_32::code(c, weights, sum, row),
         _ => NO_SUM,
     }
 }

@@ -7,14 +7,14 @@ use libc::STDIN_FILENO;
 use libc::STDOUT_FILENO;
 
 mod casts;
+mod coder_16;
+mod coder_32;
+mod coder_8;
 mod coding;
 mod lines;
 mod quantise;
 mod records;
 mod sums;
-mod w16;
-mod w32;
-mod w8;
 
 // A line of the text: where it begins, and its number.
 struct Cursor {
@@ -114,7 +114,7 @@ fn section(words: &[u8], from: Cursor, kind: u64) -> Cursor {
         first: 0,
     };
     while at < words.len() {
-        let end = at + places::line_length(&words[at..]);
+        let end = at + text::places::line_length(&words[at..]);
         let Step::Case(same) = run_line(&words[at..end], kind) else {
             break;
         };

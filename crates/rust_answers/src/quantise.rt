@@ -40,9 +40,9 @@ fn limit(width: u64) -> u64 {
 
 fn quantise_at(width: u64, fitted: Fitted, centre: u64, weights: &mut [i32]) -> Quantised {
     match width {
-        8 => quantising::quantise_8(fitted, (centre % 256) as u8, weights),
-        16 => quantising::quantise_16(fitted, (centre % 65536) as u16, weights),
-        _ => quantising::quantise_32(fitted, (centre % 4294967296) as u32, weights),
+        8 => quantising_8::quantise_fitted(fitted, (centre % 256) as u8, weights),
+        16 => quantising_16::quantise_fitted(fitted, (centre % 65536) as u16, weights),
+        _ => quantising_32::quantise_fitted(fitted, (centre % 4294967296) as u32, weights),
     }
 }
 

@@ -127,7 +127,7 @@ pub(crate) fn read(line: Line) -> bool {
         return false;
     }
     let bytes = bytes_from(numbers);
-    let got = record_read::read_from(&bytes[0..n], numbers[1] == 1);
+    let got = record_reading::read_from(&bytes[0..n], numbers[1] == 1);
     with_reading(with_bytes(crate::sums::EMPTY, bytes, n), got) == crate::sums::kept(line, 3)
 }
 
@@ -164,7 +164,7 @@ pub(crate) fn write(line: Line) -> bool {
         weights,
     };
     let mut bytes = [255u8; 144];
-    let put = record_write::write_to(delta, &mut bytes);
+    let put = record_writing::write_to(delta, &mut bytes);
     let answer = put.answer;
     let given = crate::sums::with_weights(crate::sums::EMPTY, weights, k);
     let n = numbers[11 + k];

@@ -1,7 +1,4 @@
-// What every coder does with slices. `w16` is the source of the other two widths: tools/widths.
-pub mod w16;
-pub mod w32;
-pub mod w8;
+// What every coder does with slices; proofs/ has the laws of copying.
 
 ghost use mathlib.Core.Path.{_≡_};
 ghost use Prim.Native.Nat.{min};

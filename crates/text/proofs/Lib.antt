@@ -1,2 +1,4 @@
 pub mod Scans
 pub mod Printed
+pub mod Signing
+pub mod Lines

@@ -1,1 +1,3 @@
 pub mod Words
+pub mod Signed
+pub mod Places

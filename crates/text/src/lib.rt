@@ -131,3 +131,6 @@ pub fn next_word(text: &[u8], from: usize) -> Word
         found,
     }
 }
+
+pub mod places;
+pub mod signed;

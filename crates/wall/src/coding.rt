@@ -19,9 +19,9 @@ fn encode_bytes(c: Configuration, weights: &[u8], row: &mut [u8], state: &mut [u
     let shift = c.shift;
     let bias = c.bias;
     match width {
-        Width::Eight => width_8::byte_encoding_8::encode(order, shift, bias, weights, row, state),
-        Width::Sixteen => byte_encoding::w16::encode(order, shift, bias, weights, row, state),
-        Width::ThirtyTwo => width_32::byte_encoding_32::encode(
+        Width::Eight => byte_coding_8::encoder::encode(order, shift, bias, weights, row, state),
+        Width::Sixteen => byte_coding_16::encoder::encode(order, shift, bias, weights, row, state),
+        Width::ThirtyTwo => byte_coding_32::encoder::encode(
             order,
             shift,
             bias,
@@ -38,9 +38,16 @@ fn decode_bytes(c: Configuration, weights: &[u8], state: &mut [u8], piece: &mut 
     let shift = c.shift;
     let bias = c.bias;
     match width {
-        Width::Eight => width_8::byte_decoding_8::decode(order, shift, bias, weights, state, piece),
-        Width::Sixteen => byte_decoding::w16::decode(order, shift, bias, weights, state, piece),
-        Width::ThirtyTwo => width_32::byte_decoding_32::decode(
+        Width::Eight => byte_coding_8::decoder::decode(order, shift, bias, weights, state, piece),
+        Width::Sixteen => byte_coding_16::decoder::decode(
+            order,
+            shift,
+            bias,
+            weights,
+            state,
+            piece,
+        ),
+        Width::ThirtyTwo => byte_coding_32::decoder::decode(
             order,
             shift,
             bias,

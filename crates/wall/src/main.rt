@@ -38,7 +38,7 @@ fn with_weights(text: &[u8], end: usize, c: Configuration, weights: Numbers)
     requires { ⌜ weights .count ≤ 4096 ⌝ }
 {
     let width = c.width;
-    let most = limits::greatest_sample(width);
+    let most = admission::limits::greatest_sample(width);
     let trace = reading::read_numbers(text, end, Wanted::Sample(most), 4096);
     if trace.ended {
         with_trace(text, c, weights, trace);
@@ -76,7 +76,7 @@ fn with_head(text: &[u8], line: &[u8], c: Configuration) {
 }
 
 fn answer(text: &[u8]) {
-    let end = places::line_length(text);
+    let end = text::places::line_length(text);
     let line = &text[0..end];
     let head = reading::read_head(line);
     match head {

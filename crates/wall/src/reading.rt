@@ -2,9 +2,9 @@
 use kinds::Order;
 use kinds::Shift;
 use kinds::Width;
-use signed_numbers::Signed64;
 use text::Found;
 use text::Word;
+use text::signed::Signed64;
 ghost use Prim.Native.Nat.{_≤_};
 
 // What the text had to hold at a place where it holds something else.
@@ -130,7 +130,7 @@ pub(crate) fn read_head(line: &[u8]) -> Head {
         return unread(Wanted::Shift, third);
     };
     let fourth = text::next_word(line, third.end);
-    let Signed64::Number(bias) = signed_numbers::to_signed_64(fourth) else {
+    let Signed64::Number(bias) = text::signed::to_signed_64(fourth) else {
         return unread(Wanted::Bias, fourth);
     };
     Head::Read(Configuration {

@@ -4,14 +4,14 @@ use crate::reading::Fault;
 use crate::reading::Wanted;
 use crate::saying::say;
 use crate::saying::say_with;
+use admission::limits::accumulator_bits;
+use admission::limits::accumulator_limit;
+use admission::limits::greatest_sample;
 use kinds::Answer;
-use limits::accumulator_bits;
-use limits::accumulator_limit;
-use limits::greatest_sample;
 
 fn say_place(text: &[u8], at: usize) {
     let end = slices::least(at, text.len());
-    let place = places::place_after(&text[0..end]);
+    let place = text::places::place_after(&text[0..end]);
     say_with(
         b"line #, column #: ",
         place.line as u64,
@@ -68,7 +68,7 @@ fn place_of(text: &[u8], number: usize) -> usize {
     if number == 5 {
         return text.len();
     }
-    let end = places::line_length(text);
+    let end = text::places::line_length(text);
     nth_start(&text[0..end], number)
 }
 

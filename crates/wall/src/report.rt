@@ -89,7 +89,7 @@ fn say_verdict(same: usize, samples: usize) {
 
 // MID: half of M and 1. A residual of MID says that the prediction was right.
 fn middle(width: Width) -> u64 {
-    limits::greatest_sample(width) / 2 + 1
+    admission::limits::greatest_sample(width) / 2 + 1
 }
 
 fn say_state(c: Configuration, coded: Coded) {

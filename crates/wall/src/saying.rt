@@ -94,7 +94,7 @@ pub(crate) fn say_configuration(c: Configuration, weights: Numbers, samples: usi
         c.order.0 as u64,
     );
     say_with(b", shift #, bias ", c.shift.0 as u64, 0);
-    say_signed(c.bias < 0, limits::magnitude(c.bias));
+    say_signed(c.bias < 0, admission::limits::magnitude(c.bias));
     say(b", weights");
     say_weights(weights);
     say_with(b"\nsamples: #\n", samples as u64, 0);

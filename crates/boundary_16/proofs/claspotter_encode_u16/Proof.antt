@@ -6,6 +6,7 @@ use mir.Facts.{toZ-ofZ}
 use Rattle.rule.specs.Refusals.{Config, encodingRefusal}
 use Rattle.boundary.specs.Calls.{configOf, samplesAfter, savedAfter}
 use Rattle.boundary.proofs.Handed.{handed-on}
+use Rattle.sample_16.specs.Width.{W}
 use Rattle.boundary_16.proofs.claspotter_encode_u16.Statement.{statement}
 use Rattle.boundary_16.proofs.claspotter_encode_u16.Tie as tie
 
@@ -26,8 +27,8 @@ returns c =
     let s = c .before .before .before .before .before .before .before .before .before .before in
     let given : ℤ → Config = λ b. configOf (s .args .order) (s .args .shift) b (s .args .weights .now) in
     handed-on (toZ-ofZ (s .fits .bias))
-    (λ b. encodingRefusal 16 (given b) (length (s .args .state .now)) (length (s .args .samples .now)))
-    (λ b r. samplesAfter 16 (given b) r (s .args .samples .now))
+    (λ b. encodingRefusal W (given b) (length (s .args .state .now)) (length (s .args .samples .now)))
+    (λ b r. samplesAfter W (given b) r (s .args .samples .now))
     (λ b r. savedAfter (given b) r (s .args .samples .now) (s .args .state .now))
     (c .number .ensures)
     (c .before .before .before .before .before .encode-into .ensures)

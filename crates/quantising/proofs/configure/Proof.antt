@@ -13,15 +13,15 @@ use lib.Ieee.{Float, binary64, ofInt}
 use mir.Facts.{toZ-ofZ}
 use mir.Syntax.{w64}
 use mir.Val.{toZ, ofZ}
-use Rattle.rounding.specs.Wholes.{cutOf}
+use Rattle.floats.specs.Wholes.{cutOf}
 use Rattle.floats.proofs.Compared.{not-was-true, not-was-false}
-use Rattle.rounding.proofs.Holding.{Handed, handed, outside}
+use Rattle.floats.proofs.Holding.{Handed, handed, outside}
 use Rattle.kinds.specs.Widths.{bitsOf}
 use Rattle.rule.specs.Prediction.{admitted}
-use Rattle.scaling.specs.Steps.{_⊗_, float, scaleOf}
+use Rattle.quantising.specs.Scale.{_⊗_, float, scaleOf}
 use Rattle.quantising.specs.Steps.{weightOf, weightsHold, biasOf, biasHolds, Outcome, found, settled, outcome}
-use Rattle.scaling.specs.declared.Scale.the-variants.{By}
-use Rattle.scaling.proofs.Scaling.{shift-fits}
+use Rattle.quantising.specs.declared.scaling.Scale.the-variants.{By}
+use Rattle.quantising.proofs.Scales.{shift-fits}
 use Rattle.quantising.proofs.Settling.{power-exact, power-is, no-scale, past-scale, no-weights, no-bias, not-admitted, is-admitted, nothing-found}
 use Rattle.quantising.proofs.configure.Statement.{statement}
 use Rattle.quantising.proofs.configure.Tie as tie

@@ -12,11 +12,11 @@ use lib.Ieee.{Float, nan}
 use mir.Facts.{toZ-ofZ}
 use mir.Syntax.{w32, w64}
 use mir.Val.{toZ, ofZ, SFits}
-use Rattle.rounding.specs.Wholes.{roundedOf, holds}
-use Rattle.rounding.proofs.Holding.{Handed, handed, outside, holds-mag}
-use Rattle.scaling.specs.Steps.{_⊗_}
+use Rattle.floats.specs.Wholes.{roundedOf, holds}
+use Rattle.floats.proofs.Holding.{Handed, handed, outside, holds-mag}
+use Rattle.quantising.specs.Scale.{_⊗_}
 use Rattle.quantising.specs.Steps.{weightOf, weightsHold}
-use Rattle.scaling.proofs.Turns.{at-end}
+use Rattle.quantising.proofs.Adding.{at-end}
 use Rattle.quantising.proofs.Turns.{hold-turn, round-turn}
 use Rattle.quantising.proofs.round_weights.Statement.{statement}
 use Rattle.quantising.proofs.round_weights.Tie as tie

@@ -9,7 +9,7 @@ use lib.Signed.{mag, ltZ}
 use mir.Syntax.{w64}
 use mir.Val.{toZ, ofZ}
 use mir.Facts.{toZ-ofZ, fits-natAbs}
-use Rattle.limits.proofs.Magnitudes.{flip-of-negative, not-negative}
+use Rattle.admission.proofs.Magnitudes.{flip-of-negative, not-negative}
 use Rattle.quantising_vectors.proofs.print_integer.Statement.{statement}
 use Rattle.quantising_vectors.proofs.print_integer.Tie as tie
 

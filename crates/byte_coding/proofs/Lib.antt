@@ -1,0 +1,3 @@
+pub mod Lengths
+pub mod Coded
+pub mod Chunks

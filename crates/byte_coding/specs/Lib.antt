@@ -1,0 +1,4 @@
+pub mod Bytes
+pub mod Lengths
+pub mod EncodingSteps
+pub mod DecodingSteps

@@ -1,3 +1,0 @@
-pub mod Starting
-pub mod Batches
-pub mod Turning

@@ -1,0 +1,43 @@
+-- `rounding::round_away` meets its contract: the parts' nearest whole number, with their sign, is the integer of the exact rule.
+use mathlib.Core.Path.{sym, ap, _∙_}
+use Rattle.floats.proofs.Compared.{yes, not-was-false, not-was-true}
+use Rattle.floats.proofs.Signs.{fitted, rounded-held, none-held}
+use Rattle.floats.proofs.rounding.round_away.Statement.{statement}
+use Rattle.floats.proofs.rounding.round_away.Tie as tie
+
+is-finite-requires : tie.Need-is-finite-requires
+is-finite-requires c κs = tt
+
+returns : tie.Need-returns
+returns c =
+    let a = c .before .before .args in
+    none-held (a .bits) (a .x) _ (sym (c .before .is-finite .ensures) ∙ not-was-true _ (c .if1 .taken))
+
+unpack-requires : tie.Need-unpack-requires
+unpack-requires c κs = yes (sym (c .before .is-finite .ensures) ∙ not-was-false _ (c .if1 .left))
+
+nearest-part-requires : tie.Need-nearest-part-requires
+nearest-part-requires c κs = c .unpack .ensures .held
+
+with-sign-requires : tie.Need-with-sign-requires
+with-sign-requires c κs = c .before .before .before .before .pre
+
+returns-2 : tie.Need-returns-2
+returns-2 c =
+    let p = c .before in
+    let u = p .before in
+    let r = u .unpack .result in
+    let s = u .before .before .before in
+    c .with-sign .ensures ∙ ap (fitted (s .args .bits) (r .negative)) (p .nearest-part .ensures)
+    ∙ rounded-held (s .args .bits) (s .pre .0) (s .pre .1) (s .args .x) (r .negative) (r .digits) (r .shift) (u .unpack .ensures)
+
+pub round-away-spec : {M : Type 1} → statement M
+round-away-spec =
+    tie.close
+    (tie.spec
+    is-finite-requires
+    returns
+    unpack-requires
+    nearest-part-requires
+    with-sign-requires
+    returns-2)

@@ -1,2 +1,0 @@
-// Predictions from a window of samples, at each width. `w16` is the source of the other two: tools/widths.
-pub mod w16;

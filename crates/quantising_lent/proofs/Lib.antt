@@ -1,2 +1,0 @@
-mod Lent
-pub mod Promises

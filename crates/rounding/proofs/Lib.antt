@@ -1,3 +1,0 @@
-pub mod WholeParts
-pub mod Signs
-pub mod Holding

@@ -1,5 +1,0 @@
-pub mod Turns
-mod Constants
-pub mod Unsigned
-pub mod Divisors
-pub mod Scaling

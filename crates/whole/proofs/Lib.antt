@@ -1,4 +1,0 @@
-pub mod Undone
-pub mod Pieces
-pub mod Whole
-pub mod Ways
