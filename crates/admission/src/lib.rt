@@ -6,7 +6,8 @@ use kinds::Shift;
 use kinds::Width;
 ghost use mathlib.Core.Path.{_≡_};
 ghost use Rattle.kinds.specs.Widths.{bitsOf};
-ghost use Rattle.rule.specs.Refusals.{config, codingRefusal, orderSixRefusal, encodingRefusal};
+ghost use Rattle.rule.specs.Configuration.{config};
+ghost use Rattle.rule.specs.Refusals.{codingRefusal, orderSixRefusal, encodingRefusal};
 
 // Tests 1, 2, 4, 3, where a state of `state` samples is given.
 pub fn coding_answer(

@@ -10,41 +10,14 @@ use native.Mathlib.Omega.{arith}
 use borrow.Author.Tests.{ltb-true, ltb-false, lt-ltb, le-ltb}
 use borrow.Rule.Slice.PartMut.{putMid}
 use lib.Dec.{ltb}
-use lib.IntN.{ℤ}
 use lib.ListN.{length, getD, take, drop, length-append, length-take, length-drop, drop-of-length-le, take-append-drop}
 use lib.Seq.{take-nil, take-at, drop-at, take-all, take-take, drop-drop, drop-append-le, length-take-le, getD-take, getD-drop, ext-getD}
-use Rattle.kinds.specs.declared.Answer.the-variants.{Done, TooFewSamples}
-use Rattle.kinds.specs.declared.Answer.{Answer}
-use Rattle.kinds.specs.Answers.{refuse, isDone, whenDone}
 use Rattle.rule.specs.Coding.{window, codedAt, encodedBuffer}
-use Rattle.rule.specs.Refusals.{Config, codingRefusal, encodingRefusal}
-use Rattle.rule.proofs.Filling.{length-tabulate, getD-tabulate}
+use Rattle.rule.proofs.Filling.{getD-tabulate, length-encoded}
+use Rattle.rule.proofs.Parts.{drop-take}
 use Rattle.entries.specs.Entries.{entries, bytesOfAll}
 use Rattle.entries.proofs.Bytes.{Bytes, take-bytes}
 use Rattle.entries.proofs.Lists as lists
-
-encoding-allowed : (W : ℕ) (c : Config) (state n : ℕ) → isDone (codingRefusal W c state) ≡ true → c .order ≤ n → isDone (encodingRefusal W c state n) ≡ true
-unfolding encodingRefusal
-encoding-allowed W c state n h enough = rw (h, le-ltb n (c .order) enough)
-
--- and the tests of encoding have those of coding before them
-pub coding-allowed : (W : ℕ) (c : Config) (state n : ℕ) → isDone (encodingRefusal W c state n) ≡ true → isDone (codingRefusal W c state) ≡ true
-unfolding encodingRefusal
-coding-allowed W c state n h = go (isDone (codingRefusal W c state)) refl h
-  where
-    go : (t : Bool) → isDone (codingRefusal W c state) ≡ t → isDone (cond t (refuse (ltb n (c .order)) TooFewSamples Done) (codingRefusal W c state)) ≡ true → isDone (codingRefusal W c state) ≡ true
-    go true e h = e
-    go false e h = h
-
--- an answer is done, once its bias and its lengths are known to be those that were tested
-pub allowed-done : (W : ℕ) (c : ℤ → Config) {answer : Answer} {b b₀ : ℤ} {state state₀ n n₀ : ℕ} → answer ≡ encodingRefusal W (c b) state n
-    → b ≡ b₀ → state ≡ state₀ → n ≡ n₀ → isDone (codingRefusal W (c b₀) state₀) ≡ true → c b₀ .order ≤ n₀ → isDone answer ≡ true
-allowed-done W c {b₀ = b₀} {state₀ = state₀} {n₀ = n₀} said bias held long h enough =
-    rw (said, bias, held, long) (encoding-allowed W (c b₀) state₀ n₀ h enough)
-
--- and what is left is what is promised of a call that is done
-pub left-done : (answer : Answer) (out coded refused : List ℕ) → isDone answer ≡ true → out ≡ whenDone answer coded refused → out ≡ coded
-left-done answer out coded refused h e = rw h at e
 
 -- the bytes of the first k samples are the first bytes
 pub front-entries : (n : ℕ) → 0 < n → (bytes : List ℕ) (k : ℕ) → n * k ≤ length bytes → entries n (take (n * k) bytes) ≡ take k (entries n bytes)
@@ -58,17 +31,7 @@ first-bytes n some bytes are k h =
     ∙ ap (bytesOfAll n) (front-entries n some bytes k h)
 
 -- ---- the samples of a part
-drop-take : (a t : ℕ) (l : List ℕ) → drop a (take t l) ≡ take (t - a) (drop a l)
-drop-take zero t l = rw sub-zero
-drop-take (suc a) zero l = rw zero-sub
-drop-take (suc a) (suc t) [] = sym (take-nil (suc t - suc a))
-drop-take (suc a) (suc t) (x ∷ l) = rw suc-sub-suc (drop-take a t l)
-
 module _ (W k : ℕ) (p : List ℕ → ℕ) where
-  pub length-encoded : (xs : List ℕ) → length (encodedBuffer W k p xs) ≡ length xs
-  unfolding encodedBuffer
-  length-encoded xs = length-tabulate (length xs) (codedAt W k p xs)
-
   encoded-at : (xs : List ℕ) (i : ℕ) → i < length xs → getD (encodedBuffer W k p xs) i 0 ≡ codedAt W k p xs i
   unfolding encodedBuffer
   encoded-at xs i h = getD-tabulate (length xs) (codedAt W k p xs) i 0 h
@@ -234,10 +197,9 @@ module _ {n k : ℕ} {bytes : List ℕ} {from m skip start : ℕ} (c : Piece n k
           let beyond : length (drop (n * start) bytes) ≤ length bytes - n * start = omega (arith, length-drop (n * start) bytes) in
           rw (e, kept after, drop-of-length-le left past, append-nil, drop-of-length-le (drop (n * start) bytes) beyond, append-nil, out-is, coded)
 
--- ---- the loop: from `end` on, bytes₀ is coded, and the chunk before that has k samples at least
+-- ---- the loop: from `end` on, bytes₀ is coded
 pub record Coding (W n k : ℕ) (p : List ℕ → ℕ) (bytes₀ bytes : List ℕ) (end : ℕ) : Type 0 where
   pub within : end ≤ length bytes₀ / n
-  pub enough : 0 < end → k ≤ end
   pub is : bytes ≡ take (n * end) bytes₀ ++ bytesOfAll n (drop end (encodedBuffer W k p (entries n bytes₀)))
 
 module _ (W n k : ℕ) (p : List ℕ → ℕ) (bytes₀ : List ℕ) (some : 0 < n) (whole : length bytes₀ ≡ n * (length bytes₀ / n)) where
@@ -247,12 +209,11 @@ module _ (W n k : ℕ) (p : List ℕ → ℕ) (bytes₀ : List ℕ) (some : 0 < 
   all-long : length all ≡ length bytes₀ / n
   all-long = length-encoded W k p (entries n bytes₀) ∙ lists.length-entries n bytes₀
 
-  pub begun : k ≤ length bytes₀ / n → Coding W n k p bytes₀ bytes₀ (length bytes₀ / n)
-  begun h =
+  pub begun : Coding W n k p bytes₀ bytes₀ (length bytes₀ / n)
+  begun =
       let past : length all ≤ length bytes₀ / n = omega (arith, all-long) in
       record {
         within = omega arith;
-        enough = λ some. h;
         is = rw (drop-of-length-le all past, append-nil, ← whole) (sym (take-all (length bytes₀) bytes₀ (omega arith)));
       }
 
@@ -278,10 +239,10 @@ module _ (W n k : ℕ) (p : List ℕ → ℕ) (bytes₀ : List ℕ) (some : 0 < 
     pub chunk-long : length (take (n * end) bytes) ≡ n * end
     chunk-long = rw front front-long
 
-    pub turn : (start : ℕ) → start ≤ end → (0 < start → k ≤ start) → (out : List ℕ)
+    pub turn : (start : ℕ) → start ≤ end → (out : List ℕ)
         → out ≡ take (n * start) (take (n * end) bytes) ++ bytesOfAll n (drop start (encodedBuffer W k p (entries n (take (n * end) bytes))))
         → Coding W n k p bytes₀ (out ++ drop (n * end) bytes) start
-    turn start h enough out e =
+    turn start h out e =
         let near : n * start ≤ n * end = mul-le-mul-left n h in
         let past : drop (n * end) bytes ≡ bytesOfAll n (drop end all) = rw (g .is) (drop-at (take (n * end) bytes₀) (bytesOfAll n (drop end all)) (n * end) front-long) in
         let inside : end ≤ length (entries n bytes₀) = omega (arith, lists.length-entries n bytes₀, g .within) in
@@ -290,7 +251,6 @@ module _ (W n k : ℕ) (p : List ℕ → ℕ) (bytes₀ : List ℕ) (some : 0 < 
         = sym (drop-append-le start (take end all) (drop end all) long) ∙ ap (drop start) (take-append-drop end all) in
         record {
           within = omega (arith, g .within);
-          enough = enough;
           is =
               rw (e, past, front, take-take (n * start) (n * end) bytes₀ near, front-entries n some bytes₀ end far, encoded-front W k p (entries n bytes₀) end inside, append-assoc, ← lists.bytes-append n (drop start (take end all)) (drop end all), seam);
         }

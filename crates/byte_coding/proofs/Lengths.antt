@@ -6,7 +6,7 @@ use mathlib.Core.List.{List, _++_}
 use Prim.Native.Nat.{ℕ, _*_, _/_, _%_, _<_, _≤_}
 use native.Mathlib.Nat.{div-add-mod}
 use native.Mathlib.Omega.{arith}
-use borrow.Author.Tests.{eqb-true}
+use borrow.Author.Tests.{eqb-true, eq-eqb}
 use lib.Dec.{eqb, ltb}
 use lib.IntN.{ℤ}
 use lib.ListN.{length, take, drop, length-map}
@@ -19,13 +19,22 @@ use Rattle.kinds.specs.declared.Width.{Width}
 use Rattle.kinds.specs.declared.Width.the-variants.{Eight, Sixteen, ThirtyTwo}
 use Rattle.kinds.specs.Answers.{refuse, isDone, whenDone}
 use Rattle.kinds.specs.Widths.{bitsOf}
-use Rattle.rule.specs.Refusals.{Config, orderFits, shiftFits, codingRefusal, encodingRefusal}
+use Rattle.rule.specs.Configuration.{Config}
+use Rattle.rule.specs.Refusals.{orderFits, shiftFits, codingRefusal, encodingRefusal}
 use Rattle.rule.specs.Prediction.{admitted}
-use Rattle.rule.proofs.Passing.{order-few}
-use Rattle.entries.specs.Entries.{entries, isWhole}
+use Rattle.rule.proofs.Passing.{order-few, both}
+use Rattle.entries.specs.Entries.{entries, isEntire}
 use Rattle.entries.proofs.Lists.{length-entries}
-use Rattle.byte_coding.specs.Bytes.{samplesIn, weightsIn, ragged, codingBytes, encodingBytes}
-use Rattle.byte_coding.specs.Lengths.{layoutRefusal}
+use Rattle.calls.specs.declared.Way.{Way}
+use Rattle.calls.specs.declared.Way.the-variants.{General, OrderSix}
+use Rattle.calls.specs.Encode as encoding
+use Rattle.calls.specs.Decode as decoding
+use Rattle.calls.specs.Pieces.{Fits}
+use Rattle.calls.proofs.Ways.{refusals-agree, ways-agree}
+use Rattle.byte_coding.specs.Bytes.{samplesIn, weightsIn, ragged}
+use Rattle.byte_coding.specs.Calls.{early, earlyBy, encodeLaid, encodeBytes, decodeLaid, decodeBytes}
+use Rattle.byte_coding.specs.Lengths.{layoutRefusal, layoutBy}
+use Rattle.byte_coding.proofs.Leaving as leaving
 
 -- a sample has a byte at every width
 pub some-bytes : (w : Width) → 0 < bitsOf w / 8
@@ -47,11 +56,6 @@ pub record Laid (W order weights state samples : ℕ) : Type 0 where
   pub held : state ≡ W / 8 * (state / (W / 8))
   pub sampled : samples ≡ W / 8 * (samples / (W / 8))
 
-both : (a b : Bool) → (a && b) ≡ true → (a ≡ true) × (b ≡ true)
-both true true h = (refl, refl)
-both true false h = absurd (false≢true h)
-both false b h = absurd (false≢true h)
-
 all-pass : (a b c d : Bool) → isDone (refuse (not a) BadOrder (refuse (not b) BadShift (refuse (not c) BadLength (refuse (not d) BadLength Done)))) ≡ true
     → (a ≡ true) × (c ≡ true) × (d ≡ true)
 all-pass true true true true h = (refl, refl, refl)
@@ -60,8 +64,8 @@ all-pass true true false d h = absurd (false≢true h)
 all-pass true false c d h = absurd (false≢true h)
 all-pass false b c d h = absurd (false≢true h)
 
-whole-length : (n l : ℕ) → eqb (l % n) 0 ≡ true → l ≡ n * (l / n)
-whole-length n l h = omega (arith, eqb-true (l % n) 0 h, div-add-mod l n)
+entire-length : (n l : ℕ) → eqb (l % n) 0 ≡ true → l ≡ n * (l / n)
+entire-length n l h = omega (arith, eqb-true (l % n) 0 h, div-add-mod l n)
 
 pub layout-passed : (W order shift weights state samples : ℕ) → isDone (layoutRefusal W order shift weights state samples) ≡ true → Laid W order weights state samples
 unfolding layoutRefusal
@@ -72,74 +76,144 @@ layout-passed W order shift weights state samples h =
     record {
       few = order-few order (t .0);
       weighed = eqb-true (weights / 4) order (t .2);
-      held = whole-length (W / 8) state (s .0);
-      sampled = whole-length (W / 8) samples (s .1);
+      held = entire-length (W / 8) state (s .0);
+      sampled = entire-length (W / 8) samples (s .1);
     }
 
--- ---- a call's refusal is the first of the two parts that refuses
-coding-go : (o s w l r a : Bool)
-    → let later = refuse (not o) BadOrder (refuse (not s) BadShift (refuse (not (l && r)) BadLength (refuse (not a) Overflows Done))) in
-    let early = refuse (not o) BadOrder (refuse (not s) BadShift (refuse (not w) BadLength (refuse (not l) BadLength Done))) in
-    refuse (not o) BadOrder (refuse (not s) BadShift (refuse (not w) BadLength later)) ≡ whenDone early later early
-coding-go true true true true r a = refl
-coding-go true true true false r a = refl
-coding-go true true false l r a = refl
-coding-go true false w l r a = refl
-coding-go false s w l r a = refl
+-- ---- what the lengths' tests say of a call over bytes, where the weights c has are those of its bytes
+abbrev earlyOf : (o s w : Bool) → Answer
+earlyOf o s w = refuse (not o) BadOrder (refuse (not s) BadShift (refuse (not w) BadLength Done))
 
-encoding-go : (o s w l r a few : Bool)
-    → let tests = refuse (not o) BadOrder (refuse (not s) BadShift (refuse (not (l && r)) BadLength (refuse (not a) Overflows Done))) in
-    let later = whenDone tests (refuse few TooFewSamples Done) tests in
-    let early = refuse (not o) BadOrder (refuse (not s) BadShift (refuse (not w) BadLength (refuse (not l) BadLength Done))) in
-    refuse (not o) BadOrder (refuse (not s) BadShift (refuse (not w) BadLength later)) ≡ whenDone early later early
-encoding-go true true true true r a few = refl
-encoding-go true true true false r a few = refl
-encoding-go true true false l r a few = refl
-encoding-go true false w l r a few = refl
-encoding-go false s w l r a few = refl
+abbrev layoutOf : (o s w l : Bool) → Answer
+layoutOf o s w l = refuse (not o) BadOrder (refuse (not s) BadShift (refuse (not w) BadLength (refuse (not l) BadLength Done)))
 
-refused-early : (early late : Answer) {whole : Answer} → whole ≡ whenDone early late early → isDone early ≡ false → early ≡ whole
-refused-early early late parts h = sym (parts ∙ rw h)
+-- a refusal is that of the earlier tests, or there are too few or too many weights
+data Refused (o s w l : Bool) : Type 0 where
+  sooner : isDone (earlyOf o s w) ≡ false → layoutOf o s w l ≡ earlyOf o s w → Refused o s w l
+  counted : isDone (earlyOf o s w) ≡ true → layoutOf o s w l ≡ BadLength → o ≡ true → s ≡ true → l ≡ false → Refused o s w l
 
-decided-late : (early late : Answer) {whole : Answer} → whole ≡ whenDone early late early → isDone early ≡ true → {r : Answer} → r ≡ late → r ≡ whole
-decided-late early late parts h e = e ∙ sym (parts ∙ rw h)
+refused-as : (o s w l : Bool) → isDone (layoutOf o s w l) ≡ false → Refused o s w l
+refused-as true true true true h = absurd (false≢true (sym h))
+refused-as true true true false h = counted refl refl refl refl refl
+refused-as true true false l h = sooner refl refl
+refused-as true false w l h = sooner refl refl
+refused-as false s w l h = sooner refl refl
+
+passed-as : (o s w l : Bool) → isDone (layoutOf o s w l) ≡ true → isDone (earlyOf o s w) ≡ true
+passed-as true true true l h = refl
+passed-as true true false l h = absurd (false≢true h)
+passed-as true false w l h = absurd (false≢true h)
+passed-as false s w l h = absurd (false≢true h)
 
 module _ (W : ℕ) (c : Config) (weights state samples : List ℕ) (read : c .weights ≡ weightsIn weights) where
-  count : length (c .weights) ≡ length weights / 4
-  count = ap length read ∙ length-weights weights
+  abbrev torn : Bool
+  torn = ragged W weights state samples
+
+  abbrev even : Bool
+  even = isEntire 4 weights && (isEntire (W / 8) state && isEntire (W / 8) samples)
+
+  counts : eqb (length weights / 4) (c .order) ≡ eqb (length (c .weights)) (c .order)
+  counts = ap (λ (n : ℕ). eqb n (c .order)) (sym (ap length read ∙ length-weights weights))
 
   abbrev layout : Answer
   layout = layoutRefusal W (c .order) (c .shift) (length weights) (length state) (length samples)
 
-  coding-split : codingBytes W c (ragged W weights state samples) state ≡ whenDone layout (codingRefusal W c (length (samplesIn W state))) layout
-  unfolding codingBytes codingRefusal layoutRefusal
-  coding-split =
-      rw (← count)
-      (coding-go (orderFits (c .order)) (shiftFits W (c .shift)) (isWhole 4 weights && (isWhole (W / 8) state && isWhole (W / 8) samples)) (eqb (length (c .weights)) (c .order)) (eqb (length (samplesIn W state)) (c .order)) (admitted W (c .bias) (c .weights)))
+  miscounted : (n : ℕ) → orderFits (c .order) ≡ true → shiftFits W (c .shift) ≡ true → eqb (length weights / 4) (c .order) ≡ false → codingRefusal W c n ≡ BadLength
+  unfolding codingRefusal
+  miscounted n o s l = rw (o, s, sym counts ∙ l)
 
-  encoding-split : encodingBytes W c (ragged W weights state samples) state samples ≡ whenDone layout (encodingRefusal W c (length (samplesIn W state)) (length (samplesIn W samples))) layout
-  unfolding encodingBytes encodingRefusal codingRefusal layoutRefusal
-  encoding-split =
-      rw (← count)
-      (encoding-go (orderFits (c .order)) (shiftFits W (c .shift)) (isWhole 4 weights && (isWhole (W / 8) state && isWhole (W / 8) samples)) (eqb (length (c .weights)) (c .order)) (eqb (length (samplesIn W state)) (c .order)) (admitted W (c .bias) (c .weights)) (ltb (length (samplesIn W samples)) (c .order)))
+  -- `answer` is what the lengths' tests said
+  module _ {answer : Answer} (said : answer ≡ layout) where
+    pub encode-unlaid : isDone answer ≡ false → encoding.refused answer samples state ≡ encodeBytes W c torn samples state
+    unfolding encodeBytes early layoutRefusal encodingRefusal
+    encode-unlaid fails = go (refused-as (orderFits (c .order)) (shiftFits W (c .shift)) even (eqb (length weights / 4) (c .order)) (ap isDone (sym said) ∙ fails))
+      where
+        go : Refused (orderFits (c .order)) (shiftFits W (c .shift)) even (eqb (length weights / 4) (c .order)) → encoding.refused answer samples state ≡ encodeBytes W c torn samples state
+        go (sooner fails same) = ap (λ (a : Answer). encoding.refused a samples state) (said ∙ same) ∙ rw fails
+        go (counted yet same o s l) =
+            let bad : BadLength ≡ encodingRefusal W c (length (samplesIn W state)) (length (samplesIn W samples)) = rw (miscounted (length (samplesIn W state)) o s l) in
+            ap (λ (a : Answer). encoding.refused a samples state) (said ∙ same) ∙ leaving.encode-refused W c samples state bad refl ∙ rw yet
 
-  -- `early` is what the lengths' tests answered
-  module _ {early : Answer} (said : early ≡ layout) where
-    pub coding-refused : isDone early ≡ false → early ≡ codingBytes W c (ragged W weights state samples) state
-    coding-refused = refused-early early (codingRefusal W c (length (samplesIn W state))) (rw said coding-split)
+    pub encode-laid : isDone answer ≡ true → encodeLaid W c samples state ≡ encodeBytes W c torn samples state
+    unfolding encodeBytes early layoutRefusal
+    encode-laid passes =
+        rw (passed-as (orderFits (c .order)) (shiftFits W (c .shift)) even (eqb (length weights / 4) (c .order)) (ap isDone (sym said) ∙ passes))
 
-    pub coding-late : isDone early ≡ true → {r : Answer} → r ≡ codingRefusal W c (length (samplesIn W state)) → r ≡ codingBytes W c (ragged W weights state samples) state
-    coding-late = decided-late early _ (rw said coding-split)
+  -- ---- decoding, of a piece in the samples' place, by a way that fits
+  abbrev tests : Bool → Type 0
+  tests l = Refused (orderFits (c .order)) (shiftFits W (c .shift)) even l
 
-    pub encoding-refused : isDone early ≡ false → early ≡ encodingBytes W c (ragged W weights state samples) state samples
-    encoding-refused = refused-early early (encodingRefusal W c (length (samplesIn W state)) (length (samplesIn W samples))) (rw said encoding-split)
+  early-alike : (way : Way) → Fits c way → earlyBy way W c torn ≡ early W c torn
+  unfolding earlyBy
+  early-alike General fits = refl
+  early-alike OrderSix fits = rw (eq-eqb (c .order) 6 fits)
 
-    pub encoding-late : isDone early ≡ true → {r : Answer} → r ≡ encodingRefusal W c (length (samplesIn W state)) (length (samplesIn W samples)) → r ≡ encodingBytes W c (ragged W weights state samples) state samples
-    encoding-late = decided-late early _ (rw said encoding-split)
+  refusal-alike : (way : Way) → Fits c way → (n : ℕ) → decoding.refusalBy way W c n ≡ codingRefusal W c n
+  refusal-alike General fits n = refl
+  refusal-alike OrderSix fits n = refusals-agree W c n fits
 
--- ---- what a call leaves, once its answer is known
-pub as-done : (r : Answer) → isDone r ≡ true → (refused : List ℕ) {new done : List ℕ} → new ≡ done → new ≡ whenDone r done refused
-as-done r h refused e = rw h e
+  module _ (way : Way) (fits : Fits c way) {answer : Answer} (said : answer ≡ layout) where
+    unlaid : isDone answer ≡ false → decoding.refused answer state samples ≡ decodeBytes way W c torn state samples
+    unfolding decodeBytes early layoutRefusal
+    unlaid fails = go (refused-as (orderFits (c .order)) (shiftFits W (c .shift)) even (eqb (length weights / 4) (c .order)) (ap isDone (sym said) ∙ fails))
+      where
+        go : tests (eqb (length weights / 4) (c .order)) → decoding.refused answer state samples ≡ decodeBytes way W c torn state samples
+        go (sooner fails same) = ap (λ (a : Answer). decoding.refused a state samples) (said ∙ same) ∙ rw (early-alike way fits, fails)
+        go (counted passes same o s l) =
+            let bad : BadLength ≡ decoding.refusalBy way W c (length (samplesIn W state))
+            = sym (refusal-alike way fits (length (samplesIn W state)) ∙ miscounted (length (samplesIn W state)) o s l) in
+            ap (λ (a : Answer). decoding.refused a state samples) (said ∙ same) ∙ leaving.decode-refused way W c state samples bad refl ∙ rw (early-alike way fits, passes)
 
-pub as-refused : (r : Answer) → isDone r ≡ false → (done refused : List ℕ) → refused ≡ whenDone r done refused
-as-refused r h done refused = rw h
+    laid : isDone answer ≡ true → decodeLaid way W c state samples ≡ decodeBytes way W c torn state samples
+    unfolding decodeBytes early layoutRefusal
+    laid passes =
+        rw (
+          early-alike way fits,
+          passed-as (orderFits (c .order)) (shiftFits W (c .shift)) even (eqb (length weights / 4) (c .order)) (ap isDone (sym said) ∙ passes),
+        )
+
+  abbrev layoutFor : Way → Answer
+  layoutFor way = layoutBy way W (c .order) (c .shift) (length weights) (length state) (length samples)
+
+  pub decode-unlaid : (way : Way) {answer : Answer} → answer ≡ layoutFor way → isDone answer ≡ false
+      → decoding.refused answer state samples ≡ decodeBytes way W c torn state samples
+  unfolding layoutBy decodeBytes earlyBy
+  decode-unlaid General said fails = unlaid General tt said fails
+  decode-unlaid OrderSix {answer} said fails = go (eqb (c .order) 6) refl
+    where
+      go : (d : Bool) → eqb (c .order) 6 ≡ d → decoding.refused answer state samples ≡ decodeBytes OrderSix W c torn state samples
+      go true e = unlaid OrderSix (eqb-true (c .order) 6 e) (said ∙ rw e) fails
+      go false e =
+          let bad : answer ≡ BadOrder = said ∙ rw e in
+          ap (λ (a : Answer). decoding.refused a state samples) bad ∙ rw e
+
+  pub decode-laid : (way : Way) {answer : Answer} → answer ≡ layoutFor way → isDone answer ≡ true
+      → decodeLaid way W c state samples ≡ decodeBytes way W c torn state samples
+  unfolding layoutBy
+  decode-laid General said passes = laid General tt said passes
+  decode-laid OrderSix {answer} said passes = go (eqb (c .order) 6) refl
+    where
+      go : (d : Bool) → eqb (c .order) 6 ≡ d → decodeLaid OrderSix W c state samples ≡ decodeBytes OrderSix W c torn state samples
+      go true e = laid OrderSix (eqb-true (c .order) 6 e) (said ∙ rw e) passes
+      go false e =
+          let bad : answer ≡ BadOrder = said ∙ rw e in
+          absurd (false≢true (sym (ap isDone bad) ∙ passes))
+
+-- the lengths are entire too where a way is asked for
+pub layout-passed-by : (way : Way) (W order shift weights state samples : ℕ) → isDone (layoutBy way W order shift weights state samples) ≡ true
+    → Laid W order weights state samples
+unfolding layoutBy
+layout-passed-by General W order shift weights state samples h = layout-passed W order shift weights state samples h
+layout-passed-by OrderSix W order shift weights state samples h = go (eqb order 6) refl h
+  where
+    go : (d : Bool) → eqb order 6 ≡ d → isDone (refuse (not d) BadOrder (layoutRefusal W order shift weights state samples)) ≡ true → Laid W order weights state samples
+    go true e h = layout-passed W order shift weights state samples h
+    go false e h = absurd (false≢true h)
+
+-- ---- the two ways over bytes
+pub ways-agree-in-bytes : (W : ℕ) (c : Config) (torn : Bool) (state piece : List ℕ) (way : Way) → Fits c way
+    → decodeBytes way W c torn state piece ≡ decodeBytes General W c torn state piece
+unfolding decodeBytes decodeLaid earlyBy
+ways-agree-in-bytes W c torn state piece General fits = refl
+ways-agree-in-bytes W c torn state piece OrderSix fits =
+    rw (eq-eqb (c .order) 6 fits, ways-agree W c OrderSix fits (samplesIn W state) (samplesIn W piece))

@@ -1,3 +1,4 @@
+pub mod Leaving
 pub mod Lengths
 pub mod Coded
 pub mod Chunks

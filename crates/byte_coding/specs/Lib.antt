@@ -1,4 +1,3 @@
 pub mod Bytes
 pub mod Lengths
-pub mod EncodingSteps
-pub mod DecodingSteps
+pub mod Calls

@@ -1,5 +1,7 @@
+pub mod Leaving
 pub mod Undone
-pub mod Pieces
-pub mod Whole
 pub mod Ways
+pub mod Pieces
+pub mod Chains
+pub mod Whole
 pub mod Table

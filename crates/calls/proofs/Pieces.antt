@@ -1,69 +1,121 @@
--- Pieces: however residuals are cut, the outputs and then the final state are "state, then new samples" of them all; so two cuts agree.
--- Assumes nothing.
+-- However residuals are cut: calls in order answer alike, and their joined outputs and the last state are those of one call on all the
+-- residuals, whether it is done or refused; so two cuts agree. Where the configuration's tests pass for a state of k samples, every
+-- call is done. Assumes nothing.
 use mathlib.Core.Path.{_≡_, refl, sym, ap, _∙_}
+use mathlib.Core.Bool.{Bool, true, false}
 use mathlib.Core.List.{List, [], _∷_, _++_}
-use Prim.Native.Nat.{ℕ, _≤_}
-use native.Mathlib.Omega.{arith}
-use lib.ListN.{length, take, drop, length-append}
-use lib.Seq.{take-at, length-take-le}
-use Rattle.rule.specs.Coding.{extended, decodedPiece, newState, arrayAfter}
-use Rattle.calls.specs.Pieces.{joined, outputs, finalState, callOutputs, lastArray}
+use Prim.Native.Nat.{ℕ}
+use lib.ListN.{length}
+use Rattle.kinds.specs.declared.Answer.{Answer}
+use Rattle.kinds.specs.declared.Answer.the-variants.{Done}
+use Rattle.kinds.specs.Answers.{isDone}
+use Rattle.rule.specs.Configuration.{Config}
+use Rattle.rule.specs.Prediction.{prediction}
+use Rattle.rule.specs.Coding.{decodedPiece, newState}
+use Rattle.rule.specs.Refusals.{codingRefusal}
 use Rattle.rule.proofs.Extending as extending
+use Rattle.rule.proofs.Passing.{coding-passed}
+use Rattle.calls.specs.Decode.{Decoded, left, done, refused, decode}
+use Rattle.calls.specs.Pieces.{Asked, joined, decodings, outputs, finalState, Each, AllFit}
+use Rattle.calls.proofs.Leaving.{decode-done, decode-refused}
+use Rattle.calls.proofs.Ways.{ways-agree}
 
-module _ (W k : ℕ) (p : List ℕ → ℕ) where
-  -- decoding the pieces in order is decoding them joined, in one call
-  pub outputs-joined : (state : List ℕ) (pieces : List (List ℕ)) → length state ≡ k
-      → outputs W k p state pieces ≡ decodedPiece W k p state (joined pieces)
-  unfolding decodedPiece
-  outputs-joined state [] full = refl
-  outputs-joined state (piece ∷ pieces) full =
-      rw (outputs-joined (newState W k p state piece) pieces (extending.length-state W k p state piece full))
-      (sym (extending.decoded-more W k p state piece full (joined pieces)))
+module _ (W : ℕ) (c : Config) where
+  -- ---- one call: what its tests say, and what it leaves where they pass
+  abbrev tested : List ℕ → Answer
+  tested state = codingRefusal W c (length state)
 
-  pub state-joined : (state : List ℕ) (pieces : List (List ℕ)) → length state ≡ k
-      → finalState W k p state pieces ≡ newState W k p state (joined pieces)
-  unfolding newState
-  state-joined state [] full = refl
-  state-joined state (piece ∷ pieces) full =
-      state-joined (newState W k p state piece) pieces (extending.length-state W k p state piece full)
-      ∙ sym (extending.state-more W k p state piece full (joined pieces))
+  abbrev decoded : List ℕ → List ℕ → Decoded
+  decoded state piece = done (tested state) (newState W (c .order) (prediction W c) state piece) (decodedPiece W (c .order) (prediction W c) state piece)
 
-  -- the outputs and then the final state are the whole list
-  pub pieces-whole : (state : List ℕ) (pieces : List (List ℕ)) → length state ≡ k
-      → outputs W k p state pieces ++ finalState W k p state pieces ≡ extended W k p state (joined pieces)
-  pieces-whole state pieces full =
-      rw (outputs-joined state pieces full, state-joined state pieces full) (extending.piece-whole W k p state (joined pieces) full)
+  passed : (state piece : List ℕ) → isDone (tested state) ≡ true → decode W c state piece ≡ decoded state piece
+  passed state piece passes = sym (decode-done W c state piece refl passes refl refl)
 
-  -- two cuts of the same residuals agree, in outputs and in state
-  pub cuts-agree : (state : List ℕ) (these those : List (List ℕ)) → length state ≡ k → joined these ≡ joined those
-      → (outputs W k p state these ≡ outputs W k p state those) × (finalState W k p state these ≡ finalState W k p state those)
-  cuts-agree state these those full same =
-      (rw (outputs-joined state these full, outputs-joined state those full, same), rw (state-joined state these full, state-joined state those full, same))
+  kept : (state piece : List ℕ) → isDone (tested state) ≡ false → decode W c state piece ≡ refused (tested state) state piece
+  kept state piece fails = sym (decode-refused W c state piece refl fails)
 
-  -- ---- the state in an array: what the calls read of it is its first k places
-  module _ (samples piece : List ℕ) (enough : k ≤ length samples) where
-    array-state : take k (arrayAfter W k p samples piece) ≡ newState W k p (take k samples) piece
-    array-state =
-        take-at (newState W k p (take k samples) piece) (drop k samples) k
-        (extending.length-state W k p (take k samples) piece (length-take-le k samples enough))
+  either : (P : Decoded → Type 0) (state piece : List ℕ)
+      → (isDone (tested state) ≡ true → P (decoded state piece)) → (isDone (tested state) ≡ false → P (refused (tested state) state piece))
+      → P (decode W c state piece)
+  either P state piece if-done if-refused = go (isDone (tested state)) refl
+    where
+      go : (t : Bool) → isDone (tested state) ≡ t → P (decode W c state piece)
+      go true e = rw (passed state piece e) (if-done e)
+      go false e = rw (kept state piece e) (if-refused e)
 
-    array-enough : k ≤ length (arrayAfter W k p samples piece)
-    array-enough =
-        omega (
-          arith,
-          length-append (newState W k p (take k samples) piece) (drop k samples),
-          extending.length-state W k p (take k samples) piece (length-take-le k samples enough),
-        )
+  pub decode-said : (state piece : List ℕ) → decode W c state piece .said .answer ≡ tested state
+  decode-said state piece = either (λ (d : Decoded). d .said .answer ≡ tested state) state piece (λ e. refl) (λ e. refl)
 
-  pub call-outputs : (samples : List ℕ) (pieces : List (List ℕ)) → k ≤ length samples
-      → callOutputs W k p samples pieces ≡ outputs W k p (take k samples) pieces
-  call-outputs samples [] enough = refl
-  call-outputs samples (piece ∷ pieces) enough =
-      rw (call-outputs (arrayAfter W k p samples piece) pieces (array-enough samples piece enough), array-state samples piece enough)
+  full : (state : List ℕ) → isDone (tested state) ≡ true → length state ≡ c .order
+  full state passes = coding-passed W c (length state) passes .1
 
-  pub last-state : (samples : List ℕ) (pieces : List (List ℕ)) → k ≤ length samples
-      → take k (lastArray W k p samples pieces) ≡ finalState W k p (take k samples) pieces
-  last-state samples [] enough = refl
-  last-state samples (piece ∷ pieces) enough =
-      last-state (arrayAfter W k p samples piece) pieces (array-enough samples piece enough)
-      ∙ ap (λ (state : List ℕ). finalState W k p state pieces) (array-state samples piece enough)
+  decoded-length : (state piece : List ℕ) → isDone (tested state) ≡ true → length (decoded state piece .state) ≡ length state
+  decoded-length state piece passes =
+      extending.length-state W (c .order) (prediction W c) state piece (full state passes) ∙ sym (full state passes)
+
+  pub length-kept : (state piece : List ℕ) → length (decode W c state piece .state) ≡ length state
+  length-kept state piece = either (λ (d : Decoded). length (d .state) ≡ length state) state piece (decoded-length state piece) (λ e. refl)
+
+  -- ---- a call on no residuals, and two calls as one
+  decode-none : (state : List ℕ) → ([] ≡ decode W c state [] .piece) × (state ≡ decode W c state [] .state)
+  unfolding newState decodedPiece
+  decode-none state = either (λ (d : Decoded). ([] ≡ d .piece) × (state ≡ d .state)) state [] (λ e. (refl, refl)) (λ e. (refl, refl))
+
+  -- a call, and then a call on `more` from the state that it left
+  abbrev pub followed : Decoded → List ℕ → Decoded
+  followed d more =
+      let e = decode W c (d .state) more in
+      left (d .said) (e .state) (d .piece ++ e .piece)
+
+  decoded-more : (state piece more : List ℕ) → isDone (tested state) ≡ true → decode W c state (piece ++ more) ≡ followed (decoded state piece) more
+  decoded-more state piece more e =
+      let states = extending.state-more W (c .order) (prediction W c) state piece (full state e) more in
+      let pieces = extending.decoded-more W (c .order) (prediction W c) state piece (full state e) more in
+      rw (passed state (piece ++ more) e, passed (decoded state piece .state) more (rw (decoded-length state piece e) e))
+      (λ i. done (tested state) (states i) (pieces i))
+
+  pub decode-more : (state piece more : List ℕ) → decode W c state (piece ++ more) ≡ followed (decode W c state piece) more
+  decode-more state piece more =
+      either (λ (d : Decoded). decode W c state (piece ++ more) ≡ followed d more) state piece (decoded-more state piece more)
+      (λ e. rw (kept state (piece ++ more) e, kept state more e))
+
+  -- ---- calls in order
+  pub answers-alike : (a : Answer) (state : List ℕ) (asked : List Asked) → AllFit c asked → tested state ≡ a
+      → Each (λ (d : Decoded). d .said .answer ≡ a) (decodings W c state asked)
+  answers-alike a state [] fit said = tt
+  answers-alike a state (b ∷ asked) fit said =
+      rw (ways-agree W c (b .way) (fit .0) state (b .piece)) (
+        decode-said state (b .piece) ∙ said,
+        answers-alike a (decode W c state (b .piece) .state) asked (fit .1) (ap (codingRefusal W c) (length-kept state (b .piece)) ∙ said),
+      )
+
+  pub outputs-joined : (state : List ℕ) (asked : List Asked) → AllFit c asked
+      → outputs (decodings W c state asked) ≡ decode W c state (joined asked) .piece
+  outputs-joined state [] fit = decode-none state .0
+  outputs-joined state (a ∷ asked) fit =
+      rw (ways-agree W c (a .way) (fit .0) state (a .piece), decode-more state (a .piece) (joined asked))
+      (ap (λ (later : List ℕ). decode W c state (a .piece) .piece ++ later) (outputs-joined (decode W c state (a .piece) .state) asked (fit .1)))
+
+  pub state-joined : (state : List ℕ) (asked : List Asked) → AllFit c asked
+      → finalState state (decodings W c state asked) ≡ decode W c state (joined asked) .state
+  state-joined state [] fit = decode-none state .1
+  state-joined state (a ∷ asked) fit =
+      rw (ways-agree W c (a .way) (fit .0) state (a .piece), decode-more state (a .piece) (joined asked))
+      (state-joined (decode W c state (a .piece) .state) asked (fit .1))
+
+  pub cuts-agree : (state : List ℕ) (these those : List Asked) → AllFit c these → AllFit c those → joined these ≡ joined those
+      → (outputs (decodings W c state these) ≡ outputs (decodings W c state those))
+      × (finalState state (decodings W c state these) ≡ finalState state (decodings W c state those))
+  cuts-agree state these those fit fit' same =
+      (rw (outputs-joined state these fit, outputs-joined state those fit', same), rw (state-joined state these fit, state-joined state those fit', same))
+
+  -- ---- where the tests pass for a state of k samples
+  module _ (passes : codingRefusal W c (c .order) ≡ Done) (state : List ℕ) (whole : length state ≡ c .order) (asked : List Asked) (fit : AllFit c asked) where
+    pub all-done : Each (λ (d : Decoded). d .said .answer ≡ Done) (decodings W c state asked)
+    all-done = answers-alike Done state asked fit (rw whole passes)
+
+    pub outputs-decoded : outputs (decodings W c state asked) ≡ decodedPiece W (c .order) (prediction W c) state (joined asked)
+    outputs-decoded = outputs-joined state asked fit ∙ ap (λ (d : Decoded). d .piece) (passed state (joined asked) (rw (whole, passes)))
+
+    pub state-decoded : finalState state (decodings W c state asked) ≡ newState W (c .order) (prediction W c) state (joined asked)
+    state-decoded = state-joined state asked fit ∙ ap (λ (d : Decoded). d .state) (passed state (joined asked) (rw (whole, passes)))

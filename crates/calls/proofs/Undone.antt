@@ -11,7 +11,7 @@ use lib.ListN.{length, getD, take, drop, length-drop}
 use lib.Seq.{take-suc, getD-drop, take-all}
 use Rattle.rule.specs.Numbers.{centre}
 use Rattle.rule.specs.Coding.{window, toggled, residual, codedAt, encodedBuffer, restored, sampleOf, extended}
-use Rattle.rule.proofs.Filling.{length-tabulate, getD-tabulate}
+use Rattle.rule.proofs.Filling.{getD-tabulate, length-encoded}
 use Rattle.rule.proofs.Sums.{Samples}
 use Rattle.rule.proofs.Wrapping.{centre-twice}
 use Rattle.rule.proofs.Extending as extending
@@ -28,10 +28,6 @@ restored-residual W x y hx hy =
 
 -- ---- all of them
 module _ (W k : ℕ) (p : List ℕ → ℕ) (below : (xs : List ℕ) → p xs < 2 ^ W) (xs : List ℕ) (samples : Samples W xs) where
-  length-encoded : length (encodedBuffer W k p xs) ≡ length xs
-  unfolding encodedBuffer
-  length-encoded = length-tabulate (length xs) (codedAt W k p xs)
-
   sample-encoded : (i : ℕ) → k ≤ i → i < length xs → sampleOf W k p (take i xs) (getD (encodedBuffer W k p xs) i 0) ≡ getD xs i 0
   unfolding encodedBuffer codedAt
   sample-encoded i h within =

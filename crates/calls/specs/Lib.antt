@@ -1,3 +1,5 @@
+pub mod Encode
+pub mod Decode
+pub mod ByValue
 pub mod Pieces
-pub mod Calls
 pub mod Table

@@ -1,12 +1,15 @@
--- Document 01, "Table to be proved". The old weight stands first, and a buffer is shown whole.
+-- T1 to T12: twelve calls whose every number is given. The old weight stands first, and a buffer is shown whole.
 use mathlib.Core.Path.{_≡_}
 use mathlib.Core.List.{List, [], _∷_}
 use Prim.Native.Nat.{ℕ}
 use lib.IntN.{ℤ, pos, negsuc}
-use lib.ListN.{length}
+use lib.ListN.{length, take, replicate}
 use Rattle.kinds.specs.declared.Answer.the-variants.{Done}
-use Rattle.rule.specs.Coding.{encodedBuffer, decodedPiece, newState}
-use Rattle.rule.specs.Refusals.{Config, predictor, codingRefusal, encodingRefusal, orderSixRefusal}
+use Rattle.rule.specs.Configuration.{Config}
+use Rattle.calls.specs.declared.Way.the-variants.{OrderSix}
+use Rattle.calls.specs.Encode as encoding
+use Rattle.calls.specs.Decode as decoding
+use Rattle.calls.specs.Pieces.{Each}
 
 -- weights, bias and shift, as the table has them; the order is their number
 abbrev pub given : List ℤ → ℤ → ℕ → Config
@@ -21,8 +24,8 @@ pub record Encodes : Type 0 where
 
 abbrev pub isEncoded : Encodes → Type 0
 isEncoded t =
-    (encodingRefusal (t .W) (t .config) (t .config .order) (length (t .samples)) ≡ Done)
-    × (encodedBuffer (t .W) (t .config .order) (predictor (t .W) (t .config)) (t .samples) ≡ t .buffer)
+    encoding.encode (t .W) (t .config) (t .samples) (replicate (t .config .order) 0)
+    ≡ encoding.done Done (t .buffer) (take (t .config .order) (t .samples))
 
 -- T11 and T12: from this state this piece gives this output and the new state
 pub record Decodes : Type 0 where
@@ -34,15 +37,7 @@ pub record Decodes : Type 0 where
   pub after : List ℕ
 
 abbrev pub isDecoded : Decodes → Type 0
-isDecoded t =
-    (codingRefusal (t .W) (t .config) (length (t .state)) ≡ Done)
-    × (decodedPiece (t .W) (t .config .order) (predictor (t .W) (t .config)) (t .state) (t .piece) ≡ t .output)
-    × (newState (t .W) (t .config .order) (predictor (t .W) (t .config)) (t .state) (t .piece) ≡ t .after)
-
--- every row of a table
-abbrev pub Every : {Row : Type 0} → (Row → Type 0) → List Row → Type 0
-Every holds [] = Unit {0}
-Every holds (t ∷ ts) = holds t × Every holds ts
+isDecoded t = decoding.decode (t .W) (t .config) (t .state) (t .piece) ≡ decoding.done Done (t .after) (t .output)
 
 abbrev last : Config
 last = given (pos 1 ∷ []) (pos 0) 0
@@ -67,12 +62,18 @@ encodes =
     ∷ record { W = 32; config = last; samples = 0 ∷ 4294967295 ∷ []; buffer = 2147483648 ∷ 2147483647 ∷ [] }
     ∷ []
 
+abbrev pub eleventh : Decodes
+eleventh = record { W = 8; config = sixth; state = 1 ∷ 2 ∷ 3 ∷ 4 ∷ 5 ∷ 6 ∷ []; piece = 129 ∷ []; output = 1 ∷ []; after = 2 ∷ 3 ∷ 4 ∷ 5 ∷ 6 ∷ 7 ∷ [] }
+
 abbrev pub decodes : List Decodes
 decodes =
-    record { W = 8; config = sixth; state = 1 ∷ 2 ∷ 3 ∷ 4 ∷ 5 ∷ 6 ∷ []; piece = 129 ∷ []; output = 1 ∷ []; after = 2 ∷ 3 ∷ 4 ∷ 5 ∷ 6 ∷ 7 ∷ [] }
+    eleventh
     ∷ record { W = 8; config = line; state = 10 ∷ 12 ∷ []; piece = []; output = []; after = 10 ∷ 12 ∷ [] }
     ∷ []
 
--- T11 goes the fast way too: it is not refused there, and the fast way's promise is the general one's
+-- T11 goes the way of order 6 too
+abbrev pub isDecodedAtSix : Decodes → Type 0
+isDecodedAtSix t = decoding.decodeBy OrderSix (t .W) (t .config) (t .state) (t .piece) ≡ decoding.done Done (t .after) (t .output)
+
 abbrev pub Table : Type 0
-Table = Every isEncoded encodes × Every isDecoded decodes × (orderSixRefusal 8 sixth 6 ≡ Done)
+Table = Each isEncoded encodes × Each isDecoded decodes × Each isDecodedAtSix (eleventh ∷ [])

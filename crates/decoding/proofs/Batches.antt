@@ -24,44 +24,44 @@ handed-back {k} count state r next full room e =
     e ∙ rw (whole, replaced (take k (drop count r)) state (omega (arith, long, full)))
 
 -- ---- the loop over batches, from state₀ and residuals₀: the outputs of the residuals before `start`, and then the residuals
-pub record Going (W k : ℕ) (p : List ℕ → ℕ) (state₀ latents₀ state latents : List ℕ) (start : ℕ) : Type 0 where
-  pub within : start ≤ length latents₀
-  pub same : length latents ≡ length latents₀
+pub record Going (W k : ℕ) (p : List ℕ → ℕ) (state₀ residuals₀ state residuals : List ℕ) (start : ℕ) : Type 0 where
+  pub within : start ≤ length residuals₀
+  pub same : length residuals ≡ length residuals₀
   pub full : length state ≡ k
-  pub outputs : latents ≡ decodedPiece W k p state₀ (take start latents₀) ++ drop start latents₀
-  pub next : state ≡ newState W k p state₀ (take start latents₀)
+  pub outputs : residuals ≡ decodedPiece W k p state₀ (take start residuals₀) ++ drop start residuals₀
+  pub next : state ≡ newState W k p state₀ (take start residuals₀)
 
-module _ (W k : ℕ) (p : List ℕ → ℕ) (state₀ latents₀ : List ℕ) (full₀ : length state₀ ≡ k) where
-  pub begun : Going W k p state₀ latents₀ state₀ latents₀ 0
+module _ (W k : ℕ) (p : List ℕ → ℕ) (state₀ residuals₀ : List ℕ) (full₀ : length state₀ ≡ k) where
+  pub begun : Going W k p state₀ residuals₀ state₀ residuals₀ 0
   unfolding decodedPiece newState
   begun = record { within = omega arith; same = refl; full = full₀; outputs = refl; next = refl }
 
-  module _ {state latents : List ℕ} {start : ℕ} (g : Going W k p state₀ latents₀ state latents start) where
-    passed : length (decodedPiece W k p state₀ (take start latents₀)) ≡ start
-    passed = extending.length-decoded W k p state₀ (take start latents₀) full₀ ∙ length-take-le start latents₀ (g .within)
+  module _ {state residuals : List ℕ} {start : ℕ} (g : Going W k p state₀ residuals₀ state residuals start) where
+    passed : length (decodedPiece W k p state₀ (take start residuals₀)) ≡ start
+    passed = extending.length-decoded W k p state₀ (take start residuals₀) full₀ ∙ length-take-le start residuals₀ (g .within)
 
-    ahead : drop start latents ≡ drop start latents₀
-    ahead = rw (g .outputs) (drop-at (decodedPiece W k p state₀ (take start latents₀)) (drop start latents₀) start passed)
+    ahead : drop start residuals ≡ drop start residuals₀
+    ahead = rw (g .outputs) (drop-at (decodedPiece W k p state₀ (take start residuals₀)) (drop start residuals₀) start passed)
 
-    behind : take start latents ≡ decodedPiece W k p state₀ (take start latents₀)
-    behind = rw (g .outputs) (take-at (decodedPiece W k p state₀ (take start latents₀)) (drop start latents₀) start passed)
+    behind : take start residuals ≡ decodedPiece W k p state₀ (take start residuals₀)
+    behind = rw (g .outputs) (take-at (decodedPiece W k p state₀ (take start residuals₀)) (drop start residuals₀) start passed)
 
-    module _ (end : ℕ) (out next : List ℕ) (h : start ≤ end) (within : end ≤ length latents₀)
-        (out-is : out ≡ decodedPiece W k p state (take (end - start) (drop start latents)))
-        (next-is : next ≡ newState W k p state (take (end - start) (drop start latents)))
+    module _ (end : ℕ) (out next : List ℕ) (h : start ≤ end) (within : end ≤ length residuals₀)
+        (out-is : out ≡ decodedPiece W k p state (take (end - start) (drop start residuals)))
+        (next-is : next ≡ newState W k p state (take (end - start) (drop start residuals)))
       where
         to-end : start + (end - start) ≡ end
         to-end = omega arith
 
-        more : take end latents₀ ≡ take start latents₀ ++ take (end - start) (drop start latents₀)
-        more = rw to-end at (take-add start (end - start) latents₀)
+        more : take end residuals₀ ≡ take start residuals₀ ++ take (end - start) (drop start residuals₀)
+        more = rw to-end at (take-add start (end - start) residuals₀)
 
-        next-more : next ≡ newState W k p state₀ (take end latents₀)
+        next-more : next ≡ newState W k p state₀ (take end residuals₀)
         next-more =
             next-is
-            ∙ rw (ahead, g .next, more) (sym (extending.state-more W k p state₀ (take start latents₀) full₀ (take (end - start) (drop start latents₀))))
+            ∙ rw (ahead, g .next, more) (sym (extending.state-more W k p state₀ (take start residuals₀) full₀ (take (end - start) (drop start residuals₀))))
 
-        outputs-more : putMid start (end - start) latents out ≡ decodedPiece W k p state₀ (take end latents₀) ++ drop end latents₀
+        outputs-more : putMid start (end - start) residuals out ≡ decodedPiece W k p state₀ (take end residuals₀) ++ drop end residuals₀
         outputs-more =
             rw (
               behind,
@@ -71,23 +71,23 @@ module _ (W k : ℕ) (p : List ℕ → ℕ) (state₀ latents₀ : List ℕ) (fu
               drop-drop,
               to-end,
               more,
-              extending.decoded-more W k p state₀ (take start latents₀) full₀ (take (end - start) (drop start latents₀)),
+              extending.decoded-more W k p state₀ (take start residuals₀) full₀ (take (end - start) (drop start residuals₀)),
             )
-            (sym (append-assoc (decodedPiece W k p state₀ (take start latents₀)) _ (drop end latents₀)))
+            (sym (append-assoc (decodedPiece W k p state₀ (take start residuals₀)) _ (drop end residuals₀)))
 
-        pub turn : Going W k p state₀ latents₀ next (putMid start (end - start) latents out) end
+        pub turn : Going W k p state₀ residuals₀ next (putMid start (end - start) residuals out) end
         turn =
             record {
               within = within;
               same =
-                  rw (outputs-more, length-append, extending.length-decoded W k p state₀ (take end latents₀) full₀)
-                  (sym (length-append (take end latents₀) (drop end latents₀)) ∙ ap length (take-append-drop end latents₀));
-              full = rw next-more (extending.length-state W k p state₀ (take end latents₀) full₀);
+                  rw (outputs-more, length-append, extending.length-decoded W k p state₀ (take end residuals₀) full₀)
+                  (sym (length-append (take end residuals₀) (drop end residuals₀)) ∙ ap length (take-append-drop end residuals₀));
+              full = rw next-more (extending.length-state W k p state₀ (take end residuals₀) full₀);
               outputs = outputs-more;
               next = next-more;
             }
 
-    pub ended : length latents ≤ start → (latents ≡ decodedPiece W k p state₀ latents₀) × (state ≡ newState W k p state₀ latents₀)
+    pub ended : length residuals ≤ start → (residuals ≡ decodedPiece W k p state₀ residuals₀) × (state ≡ newState W k p state₀ residuals₀)
     ended past =
-        let h : length latents₀ ≤ start = omega (arith, g .same) in
-        (g .outputs ∙ rw (take-all start latents₀ h, drop-of-length-le latents₀ h) (append-nil _), g .next ∙ rw (take-all start latents₀ h))
+        let h : length residuals₀ ≤ start = omega (arith, g .same) in
+        (g .outputs ∙ rw (take-all start residuals₀ h, drop-of-length-le residuals₀ h) (append-nil _), g .next ∙ rw (take-all start residuals₀ h))

@@ -1,5 +1,6 @@
 pub mod Starting
+pub mod Choosing
+pub mod Lending
 pub mod Batches
 pub mod Turning
 pub mod Residuals
-pub mod Lending

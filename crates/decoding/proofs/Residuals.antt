@@ -6,9 +6,10 @@ use Prim.Native.Nat.{ℕ, zero, suc, _+_, _-_, _%_, _^_, _≤_, _<_}
 use native.Mathlib.Nat.{not-suc-le-zero}
 use native.Mathlib.Numerals.{add-one}
 use native.Mathlib.Omega.{arith}
-use lib.IntN.{ℤ}
 use lib.ListN.{length, getD, take, drop, set, length-set, length-map, length-take, length-drop}
 use lib.Seq.{getD-take, getD-drop, drop-cons, drop-set-add, take-suc-set, length-take-le}
+use Rattle.rule.specs.Configuration.{Config}
+use Rattle.rule.specs.Prediction.{prediction}
 use Rattle.rule.specs.Coding.{toggled, decodedPiece, newState}
 use Rattle.decoding.specs.Steps.{Decodes}
 use Rattle.decoding.proofs.Batches as batches
@@ -27,7 +28,7 @@ oldest k l i some =
     let e : i + 0 ≡ i = omega arith in
     getD-take k (drop i l) 0 0 some ∙ getD-drop i l 0 0 ∙ ap (λ (n : ℕ). getD l n 0) e
 
--- a latent less is left as one is written
+-- a residual less is left as one is written
 pub less : (l : List ℕ) (i v : ℕ) → i < length l → length (set l i v) - (i + 1) < length l - i
 less l i v within = rw (length-set l i v) (omega arith)
 
@@ -42,7 +43,7 @@ part-short k l i =
     let whole : i + k - i ≡ k = omega arith in
     rw (whole, length-take) (omega arith)
 
--- the loop's invariant, from the samples s₀ and the latents l₀
+-- the loop's invariant, from the samples s₀ and the residuals l₀
 pub record Holds (W k : ℕ) (p : List ℕ → ℕ) (s₀ l₀ s l : List ℕ) (i : ℕ) : Type 0 where
   pub room : length s ≡ length s₀
   pub same : length l ≡ length l₀
@@ -76,7 +77,11 @@ module _ (W k : ℕ) (p : List ℕ → ℕ) (some : 1 ≤ k) (s₀ l₀ : List �
         (sym (turning.mixed-all W i l past) ∙ t .0, rw (← e) (t .1))
 
 -- what the loop leaves, in the terms of the batch that it decodes
-pub left : {W q : ℕ} {b b′ : ℤ} {ws : List ℤ} {from from′ residuals residuals′ outputs last next : List ℕ}
-    → b ≡ b′ → from ≡ from′ → residuals ≡ residuals′ → next ≡ last
-    → Decodes W q b ws from residuals outputs last → Decodes W q b′ ws from′ residuals′ outputs next
-left e f g h d = record { outputs-are = rw (e, f, g) at (d .outputs-are); next-is = h ∙ rw (e, f, g) at (d .next-is) }
+pub left : {W : ℕ} {c c′ : Config} {from from′ residuals residuals′ outputs last next : List ℕ}
+    → c ≡ c′ → from ≡ from′ → residuals ≡ residuals′ → next ≡ last
+    → Decodes W c from residuals outputs last → Decodes W c′ from′ residuals′ outputs next
+left {W} e f g h d =
+    record {
+      outputs-are = d .outputs-are ∙ λ i. decodedPiece W (e i .order) (prediction W (e i)) (f i) (g i);
+      next-is = h ∙ d .next-is ∙ λ i. newState W (e i .order) (prediction W (e i)) (f i) (g i);
+    }

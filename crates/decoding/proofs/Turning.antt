@@ -60,22 +60,22 @@ module _ (W i : ℕ) (l : List ℕ) where
           append-assoc,
         )
 
-module _ (W k : ℕ) (p : List ℕ → ℕ) (some : 1 ≤ k) (state₀ latents₀ : List ℕ) (full₀ : length state₀ ≡ k) where
-  coded-turn : (xs latents : List ℕ) (i y : ℕ) → batches.Going W k p state₀ latents₀ xs latents i
-      → i < length latents → y ≡ restored W (getD latents i 0) (p xs)
-      → batches.Going W k p state₀ latents₀ (drop 1 xs ++ y ∷ []) (set latents i (getD xs 0 0)) (i + 1)
-  coded-turn xs latents i y g within e =
+module _ (W k : ℕ) (p : List ℕ → ℕ) (some : 1 ≤ k) (state₀ residuals₀ : List ℕ) (full₀ : length state₀ ≡ k) where
+  coded-turn : (xs residuals : List ℕ) (i y : ℕ) → batches.Going W k p state₀ residuals₀ xs residuals i
+      → i < length residuals → y ≡ restored W (getD residuals i 0) (p xs)
+      → batches.Going W k p state₀ residuals₀ (drop 1 xs ++ y ∷ []) (set residuals i (getD xs 0 0)) (i + 1)
+  coded-turn xs residuals i y g within e =
       let oldest : take 1 xs ≡ getD xs 0 0 ∷ [] = take-suc xs 0 0 (omega (arith, g .full)) in
-      rw (put-one latents i (getD xs 0 0) within) at
-      (batches.turn W k p state₀ latents₀ full₀ g (i + 1) (getD xs 0 0 ∷ []) (drop 1 xs ++ y ∷ []) (omega arith) (omega (arith, g .same))
-      (rw (part-one latents i 0 within) (sym (extending.decoded-one W k p xs (getD latents i 0) (g .full) some ∙ oldest)))
-      (rw (part-one latents i 0 within, e) (sym (extending.state-one W k p xs (getD latents i 0) (g .full) some))))
+      rw (put-one residuals i (getD xs 0 0) within) at
+      (batches.turn W k p state₀ residuals₀ full₀ g (i + 1) (getD xs 0 0 ∷ []) (drop 1 xs ++ y ∷ []) (omega arith) (omega (arith, g .same))
+      (rw (part-one residuals i 0 within) (sym (extending.decoded-one W k p xs (getD residuals i 0) (g .full) some ∙ oldest)))
+      (rw (part-one residuals i 0 within, e) (sym (extending.state-one W k p xs (getD residuals i 0) (g .full) some))))
 
-  -- the latents stand with MID off
-  pub turn : (xs latents : List ℕ) (i y : ℕ) → batches.Going W k p state₀ latents₀ xs (mixed W i latents) i
-      → i < length latents → y ≡ (getD latents i 0 + p xs) % 2 ^ W
-      → batches.Going W k p state₀ latents₀ (drop 1 xs ++ y ∷ []) (mixed W (i + 1) (set latents i (getD xs 0 0))) (i + 1)
-  turn xs latents i y g within e =
-      rw (mixed-set W i latents within (getD xs 0 0)) at
-      (coded-turn xs (mixed W i latents) i y g (omega (arith, mixed-long W i latents))
-      (e ∙ rw (mixed-get W i latents within) (sym (restored-toggled W (getD latents i 0) (p xs)))))
+  -- the residuals stand with MID off
+  pub turn : (xs residuals : List ℕ) (i y : ℕ) → batches.Going W k p state₀ residuals₀ xs (mixed W i residuals) i
+      → i < length residuals → y ≡ (getD residuals i 0 + p xs) % 2 ^ W
+      → batches.Going W k p state₀ residuals₀ (drop 1 xs ++ y ∷ []) (mixed W (i + 1) (set residuals i (getD xs 0 0))) (i + 1)
+  turn xs residuals i y g within e =
+      rw (mixed-set W i residuals within (getD xs 0 0)) at
+      (coded-turn xs (mixed W i residuals) i y g (omega (arith, mixed-long W i residuals))
+      (e ∙ rw (mixed-get W i residuals within) (sym (restored-toggled W (getD residuals i 0) (p xs)))))

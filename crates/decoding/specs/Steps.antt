@@ -1,20 +1,18 @@
--- What the steps of decoding lean on and leave, once a call's tests have passed: the order k is the number of the weights.
+-- What the steps of decoding lean on and leave, whichever way decodes.
 use mathlib.Core.Path.{_≡_}
 use mathlib.Core.List.{List}
-use Prim.Native.Nat.{ℕ, _≤_}
-use lib.IntN.{ℤ}
+use Prim.Native.Nat.{ℕ}
 use lib.ListN.{length}
+use Rattle.rule.specs.Configuration.{Config}
 use Rattle.rule.specs.Prediction.{prediction, Ready}
 use Rattle.rule.specs.Coding.{decodedPiece, newState}
 
--- the state has a sample for each of the 1 to 32 weights, which are fit to predict with
-pub record Startable (W q : ℕ) (bias : ℤ) (ws : List ℤ) (state : List ℕ) : Type 0 where
-  pub full : length state ≡ length ws
-  pub some : 1 ≤ length ws
-  pub few : length ws ≤ 32
-  pub ready : Ready W q bias ws
+-- the tests have passed, and the state has a sample for each of the k weights
+pub record Startable (W : ℕ) (c : Config) (state : List ℕ) : Type 0 where
+  pub ready : Ready W c
+  pub full : length state ≡ c .order
 
 -- from the state and the residuals: the outputs, and the state for what follows
-pub record Decodes (W q : ℕ) (bias : ℤ) (ws : List ℤ) (state residuals outputs next : List ℕ) : Type 0 where
-  pub outputs-are : outputs ≡ decodedPiece W (length ws) (prediction W q bias ws) state residuals
-  pub next-is : next ≡ newState W (length ws) (prediction W q bias ws) state residuals
+pub record Decodes (W : ℕ) (c : Config) (state residuals outputs next : List ℕ) : Type 0 where
+  pub outputs-are : outputs ≡ decodedPiece W (c .order) (prediction W c) state residuals
+  pub next-is : next ≡ newState W (c .order) (prediction W c) state residuals

@@ -11,7 +11,9 @@ ghost use Prim.Native.Nat.{_+_, _*_, _/_};
 ghost use lib.ListN.{length, take, drop, replicate};
 ghost use Rattle.kinds.specs.Answers.{numberOf, whenDone};
 ghost use Rattle.rule.specs.Coding.{encodedBuffer, savedState};
-ghost use Rattle.rule.specs.Refusals.{config, predictor, encodingRefusal};
+ghost use Rattle.rule.specs.Configuration.{config};
+ghost use Rattle.rule.specs.Prediction.{prediction};
+ghost use Rattle.rule.specs.Refusals.{encodingRefusal};
 ghost use Rattle.sample_8.specs.Width.{W};
 
 pub struct Encoded {
@@ -28,7 +30,7 @@ pub fn encode_in_place(
     latents: &mut [Sample],
 ) -> Encoded
     ensures { λ r. ⌜ r .answer ≡ encodingRefusal W (config order shift bias (now (weights .entry))) (order .0) (length (now (latents .entry))) ⌝ }
-    ensures { λ r. ⌜ now (latents .exit) ≡ whenDone (r .answer) (encodedBuffer W (order .0) (predictor W (config order shift bias (now (weights .entry)))) (now (latents .entry))) (now (latents .entry)) ⌝ }
+    ensures { λ r. ⌜ now (latents .exit) ≡ whenDone (r .answer) (encodedBuffer W (order .0) (prediction W (config order shift bias (now (weights .entry)))) (now (latents .entry))) (now (latents .entry)) ⌝ }
     ensures { λ r. ⌜ r .state .samples ≡ whenDone (r .answer) (savedState (order .0) (now (latents .entry))) (replicate 32 0) ⌝ }
     ensures { λ r. ⌜ r .state .count .0 ≡ whenDone (r .answer) (order .0) 0 ⌝ }
 {
@@ -64,7 +66,7 @@ pub fn encode<'a, 'b, 'c>(
     state: &'b mut [Sample],
     number: &'c mut u32,
 ) -> &'a mut [Sample]
-    ensures { λ r. ⌜ now r ≡ whenDone (encodingRefusal W (config order shift bias (now (weights .entry))) (length (now (state .entry))) (length (now (latents .entry)))) (drop (order .0) (encodedBuffer W (order .0) (predictor W (config order shift bias (now (weights .entry)))) (now (latents .entry)))) [] ⌝ }
+    ensures { λ r. ⌜ now r ≡ whenDone (encodingRefusal W (config order shift bias (now (weights .entry))) (length (now (state .entry))) (length (now (latents .entry)))) (drop (order .0) (encodedBuffer W (order .0) (prediction W (config order shift bias (now (weights .entry)))) (now (latents .entry)))) [] ⌝ }
     ensures { λ r. ⌜ r .ptr ≡ (latents .entry .ptr .0, whenDone (encodingRefusal W (config order shift bias (now (weights .entry))) (length (now (state .entry))) (length (now (latents .entry)))) (order .0) (length (now (latents .entry))) * (W / 8) + latents .entry .ptr .1) ⌝ }
     ensures { λ r. ⌜ now (state .exit) ≡ whenDone (encodingRefusal W (config order shift bias (now (weights .entry))) (length (now (state .entry))) (length (now (latents .entry)))) (take (order .0) (now (latents .entry))) (now (state .entry)) ⌝ }
     ensures { λ r. ⌜ now (number .exit) ≡ numberOf (encodingRefusal W (config order shift bias (now (weights .entry))) (length (now (state .entry))) (length (now (latents .entry)))) ⌝ }

@@ -13,7 +13,8 @@ ghost use lib.ListN.{length, getD, take, drop};
 ghost use Rattle.kinds.specs.Answers.{whenDone};
 ghost use Rattle.rule.specs.Prediction.{Ready, prediction};
 ghost use Rattle.rule.specs.Coding.{tabulate, residual, encodedBuffer};
-ghost use Rattle.rule.specs.Refusals.{config, predictor, encodingRefusal};
+ghost use Rattle.rule.specs.Configuration.{config};
+ghost use Rattle.rule.specs.Refusals.{encodingRefusal};
 ghost use Rattle.sample_8.specs.Width.{W};
 
 // Samples to a batch. Their predictions, and up to 32 for the batch after, stand in one array.
@@ -94,7 +95,7 @@ pub fn encode_into(
     state: &mut [Sample],
 ) -> Answer
     ensures { λ r. ⌜ r ≡ encodingRefusal W (config order shift bias (now (weights .entry))) (length (now (state .entry))) (length (now (latents .entry))) ⌝ }
-    ensures { λ r. ⌜ now (latents .exit) ≡ whenDone r (encodedBuffer W (order .0) (predictor W (config order shift bias (now (weights .entry)))) (now (latents .entry))) (now (latents .entry)) ⌝ }
+    ensures { λ r. ⌜ now (latents .exit) ≡ whenDone r (encodedBuffer W (order .0) (prediction W (config order shift bias (now (weights .entry)))) (now (latents .entry))) (now (latents .entry)) ⌝ }
     ensures { λ r. ⌜ now (state .exit) ≡ whenDone r (take (order .0) (now (latents .entry))) (now (state .entry)) ⌝ }
 {
     let answer = admission::encoding_answer(

@@ -12,6 +12,7 @@ use mir.Val.{toZ}
 use lib.ListN.{length, getD, take, drop, length-append, length-drop}
 use lib.Seq.{take-nil, take-at, drop-at, drop-append-add, length-take-le, take-take, take-suc, drop-drop, take-add, take-all}
 use Rattle.rule.specs.Coding.{tabulate}
+use Rattle.rule.proofs.Parts.{drop-take}
 use Rattle.rule.proofs.Filling.{Filled, length-tabulate, getD-tabulate, tabulate-same, tabulate-part}
 use Rattle.entries.specs.Entries.{valueOf, bytesOf, entryAt, withEntry, entries, bytesOfAll, signedEntries}
 use Rattle.entries.proofs.Bytes.{Bytes, take-bytes, drop-bytes, length-bytes, value-of-bytes, bytes-of-value}
@@ -68,12 +69,6 @@ module _ (n : ℕ) where
       rw count (front-bytes bytes are m (omega arith) ∙ take-all (n * m) bytes (omega arith))
 
   -- ---- the entries of a part are a part of the entries
-  drop-take : (a t : ℕ) (l : List ℕ) → drop a (take t l) ≡ take (t - a) (drop a l)
-  drop-take zero t l = rw sub-zero
-  drop-take (suc a) zero l = rw zero-sub
-  drop-take (suc a) (suc t) [] = sym (take-nil (suc t - suc a))
-  drop-take (suc a) (suc t) (x ∷ l) = rw suc-sub-suc (drop-take a t l)
-
   pub entries-part : 0 < n → (bytes : List ℕ) (s m : ℕ) → n * s + n * m ≤ length bytes
       → entries n (take (n * m) (drop (n * s) bytes)) ≡ take m (drop s (entries n bytes))
   unfolding entries entryAt

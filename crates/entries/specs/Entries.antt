@@ -40,6 +40,6 @@ bytesOfAll n (v ∷ vs) = bytesOf n v ++ bytesOfAll n vs
 abbrev pub signedEntries : Width → ℕ → List ℕ → List ℤ
 signedEntries w n bytes = map (toZ w) (entries n bytes)
 
--- a whole number of entries
-abbrev pub isWhole : ℕ → List ℕ → Bool
-isWhole n bytes = eqb (length bytes % n) 0
+-- bytes that divide into entries
+abbrev pub isEntire : ℕ → List ℕ → Bool
+isEntire n bytes = eqb (length bytes % n) 0

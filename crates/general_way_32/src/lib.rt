@@ -12,7 +12,9 @@ ghost use Prim.Native.Nat.{_+_, _≤_};
 ghost use lib.ListN.{length, take, drop};
 ghost use Rattle.kinds.specs.Answers.{whenDone};
 ghost use Rattle.rule.specs.Coding.{toggled, decodedPiece, newState};
-ghost use Rattle.rule.specs.Refusals.{config, predictor, codingRefusal};
+ghost use Rattle.rule.specs.Configuration.{config};
+ghost use Rattle.rule.specs.Prediction.{prediction};
+ghost use Rattle.rule.specs.Refusals.{codingRefusal};
 ghost use Rattle.decoding.specs.Steps.{Startable, Decodes};
 ghost use Rattle.sample_32.specs.Width.{W};
 
@@ -107,8 +109,8 @@ pub fn decode_into(
     piece: &mut [Sample],
 ) -> Answer
     ensures { λ r. ⌜ r ≡ codingRefusal W (config order shift bias (now (weights .entry))) (length (now (state .entry))) ⌝ }
-    ensures { λ r. ⌜ now (piece .exit) ≡ whenDone r (decodedPiece W (order .0) (predictor W (config order shift bias (now (weights .entry)))) (now (state .entry)) (now (piece .entry))) (now (piece .entry)) ⌝ }
-    ensures { λ r. ⌜ now (state .exit) ≡ whenDone r (newState W (order .0) (predictor W (config order shift bias (now (weights .entry)))) (now (state .entry)) (now (piece .entry))) (now (state .entry)) ⌝ }
+    ensures { λ r. ⌜ now (piece .exit) ≡ whenDone r (decodedPiece W (order .0) (prediction W (config order shift bias (now (weights .entry)))) (now (state .entry)) (now (piece .entry))) (now (piece .entry)) ⌝ }
+    ensures { λ r. ⌜ now (state .exit) ≡ whenDone r (newState W (order .0) (prediction W (config order shift bias (now (weights .entry)))) (now (state .entry)) (now (piece .entry))) (now (state .entry)) ⌝ }
 {
     let held = SampleCount(state.len());
     let answer = admission::coding_answer(WIDTH, order, shift, bias, weights, held);

@@ -1,4 +1,4 @@
--- The refusal table of document 01: each answer's number, and the two ways in which answers are put together.
+-- The refusal table: each answer's number, and the two ways in which answers are put together.
 use mathlib.Core.Bool.{Bool, true, false, cond}
 use Prim.Native.Nat.{ℕ}
 use lib.Dec.{eqb}

@@ -1,4 +1,4 @@
--- The widths of document 01, "Numbers", as the number W of bits in a sample.
+-- The widths, as the number W of bits in a sample.
 use Prim.Native.Nat.{ℕ}
 use Rattle.kinds.specs.declared.Width.{Width}
 use Rattle.kinds.specs.declared.Width.the-variants.{Eight, Sixteen, ThirtyTwo}

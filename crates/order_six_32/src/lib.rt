@@ -13,9 +13,10 @@ ghost use lib.IntN.{pos, _+ℤ_, _*ℤ_};
 ghost use lib.ListN.{length, getD};
 ghost use mir.Val.{SFits};
 ghost use Rattle.kinds.specs.Answers.{whenDone};
-ghost use Rattle.rule.specs.Prediction.{admitted};
+ghost use Rattle.rule.specs.Prediction.{admitted, prediction};
 ghost use Rattle.rule.specs.Coding.{decodedPiece, newState};
-ghost use Rattle.rule.specs.Refusals.{config, predictor, orderSixRefusal};
+ghost use Rattle.rule.specs.Configuration.{config};
+ghost use Rattle.rule.specs.Refusals.{orderSixRefusal};
 ghost use Rattle.decoding.specs.Steps.{Startable, Decodes};
 ghost use Rattle.order_six.specs.Running.{Runs, Grows, shifted};
 ghost use Rattle.sample_32.specs.Width.{W, wide};
@@ -167,8 +168,8 @@ pub fn decode_order_6_into(
     piece: &mut [Sample],
 ) -> Answer
     ensures { λ r. ⌜ r ≡ orderSixRefusal W (config order shift bias (now (weights .entry))) (length (now (state .entry))) ⌝ }
-    ensures { λ r. ⌜ now (piece .exit) ≡ whenDone r (decodedPiece W (order .0) (predictor W (config order shift bias (now (weights .entry)))) (now (state .entry)) (now (piece .entry))) (now (piece .entry)) ⌝ }
-    ensures { λ r. ⌜ now (state .exit) ≡ whenDone r (newState W (order .0) (predictor W (config order shift bias (now (weights .entry)))) (now (state .entry)) (now (piece .entry))) (now (state .entry)) ⌝ }
+    ensures { λ r. ⌜ now (piece .exit) ≡ whenDone r (decodedPiece W (order .0) (prediction W (config order shift bias (now (weights .entry)))) (now (state .entry)) (now (piece .entry))) (now (piece .entry)) ⌝ }
+    ensures { λ r. ⌜ now (state .exit) ≡ whenDone r (newState W (order .0) (prediction W (config order shift bias (now (weights .entry)))) (now (state .entry)) (now (piece .entry))) (now (state .entry)) ⌝ }
 {
     let held = SampleCount(state.len());
     let answer = admission::order_six_answer(WIDTH, order, shift, bias, weights, held);

@@ -8,15 +8,10 @@ use native.Mathlib.Nat.{add-zero, sub-zero, zero-sub, suc-sub-suc, sub-self}
 use native.Mathlib.Omega.{arith}
 use lib.ListN.{length, take, drop, length-append, length-drop, take-append-drop}
 use lib.Seq.{take-nil, take-append-add, drop-append-add, drop-at, take-append-le, drop-append-le, length-take-le}
+use Rattle.rule.proofs.Parts.{drop-take}
 use Rattle.rule.specs.Coding.{window, restored, sampleOf, extended, decodedPiece, newState}
 
 -- dropping from a front is taking from what is left
-drop-take : (a t : ℕ) (l : List ℕ) → drop a (take t l) ≡ take (t - a) (drop a l)
-drop-take zero t l = rw sub-zero
-drop-take (suc a) zero l = rw zero-sub
-drop-take (suc a) (suc t) [] = sym (take-nil (suc t - suc a))
-drop-take (suc a) (suc t) (x ∷ l) = rw suc-sub-suc (drop-take a t l)
-
 module _ (W k : ℕ) (p : List ℕ → ℕ) where
   -- ---- where the first i places of a list are known, the window before place i is what the next sample is predicted from
   pub sample-window : (l : List ℕ) (i r : ℕ) → k ≤ i → i ≤ length l → sampleOf W k p (take i l) r ≡ restored W r (p (window k i l))

@@ -9,7 +9,7 @@ use mathlib.Core.Logic.{⊎-elim}
 use native.Mathlib.Nat.{not-suc-le-zero, eq-or-lt-of-le, le-of-suc-le-suc, zero-add, sub-zero, zero-sub, suc-sub-suc}
 use lib.ListN.{length, getD, take, drop, set, replicate, length-append, length-drop, List·getD-append}
 use lib.Seq.{drop-cons, set-at, length-take-le, drop-length, getD-at, getD-append-add, getD-drop, getD-take, ext-getD}
-use Rattle.rule.specs.Coding.{tabulate}
+use Rattle.rule.specs.Coding.{tabulate, codedAt, encodedBuffer}
 
 module _ {A : Type 0} where
   pub length-tabulate : (n : ℕ) (f : ℕ → A) → length (tabulate n f) ≡ n
@@ -40,6 +40,11 @@ module _ {A : Type 0} where
   drop-replicate n zero a = rw sub-zero
   drop-replicate zero (suc i) a = rw zero-sub
   drop-replicate (suc n) (suc i) a = rw suc-sub-suc (drop-replicate n i a)
+
+  pub take-replicate : (n i : ℕ) (a : A) → i ≤ n → take i (replicate n a) ≡ replicate i a
+  take-replicate n zero a h = refl
+  take-replicate zero (suc i) a h = absurd (not-suc-le-zero h)
+  take-replicate (suc n) (suc i) a h = ap (λ (l : List A). a ∷ l) (take-replicate n i a (le-of-suc-le-suc h))
 
 -- l is z with its first i places filled from the table f
 pub record Filled {A : Type 0} (f : ℕ → A) (z l : List A) (i : ℕ) : Type 0 where
@@ -94,3 +99,7 @@ pub getD-zeros : (n i : ℕ) → _≡_ {A = ℕ} (getD (replicate n 0) i 0) 0
 getD-zeros zero i = refl
 getD-zeros (suc n) zero = refl
 getD-zeros (suc n) (suc i) = getD-zeros n i
+
+pub length-encoded : (W k : ℕ) (p : List ℕ → ℕ) (xs : List ℕ) → length (encodedBuffer W k p xs) ≡ length xs
+unfolding encodedBuffer
+length-encoded W k p xs = length-tabulate (length xs) (codedAt W k p xs)

@@ -1,12 +1,13 @@
 -- A list whose part from a on, k places long, was lent and has come back as ys: what stands at each place.
 -- Assumes nothing.
 use mathlib.Core.Path.{_≡_, sym, ap, _∙_}
-use mathlib.Core.List.{List, _++_}
-use Prim.Native.Nat.{ℕ, _+_, _-_, _≤_, _<_}
+use mathlib.Core.List.{List, [], _∷_, _++_}
+use Prim.Native.Nat.{ℕ, zero, suc, _+_, _-_, _≤_, _<_}
+use native.Mathlib.Nat.{zero-sub, sub-zero, suc-sub-suc}
 use native.Mathlib.Omega.{arith}
 use borrow.Rule.Slice.PartMut.{putMid, postOf}
 use lib.ListN.{length, getD, take, drop, List·getD-append}
-use lib.Seq.{length-take-le, getD-take, getD-drop, getD-append-add}
+use lib.Seq.{take-nil, length-take-le, getD-take, getD-drop, getD-append-add}
 
 module _ {A : Type 0} (a k : ℕ) (xs ys : List A) (d : A) (inside : a + k ≤ length xs) (long : length ys ≡ k) where
   front : length (take a xs) ≡ a
@@ -34,3 +35,10 @@ module _ {A : Type 0} (a k : ℕ) (xs ys : List A) (d : A) (inside : a + k ≤ l
   after-part i h =
       let e : a + (k + (i - a - k)) ≡ i = omega arith in
       rw e at (past-part (i - a - k))
+
+-- a part of a front is the front of a part
+pub drop-take : (a t : ℕ) (l : List ℕ) → drop a (take t l) ≡ take (t - a) (drop a l)
+drop-take zero t l = rw sub-zero
+drop-take (suc a) zero l = rw zero-sub
+drop-take (suc a) (suc t) [] = sym (take-nil (suc t - suc a))
+drop-take (suc a) (suc t) (x ∷ l) = rw suc-sub-suc (drop-take a t l)

@@ -3,7 +3,7 @@
 use mathlib.Core.Path.{_≡_, refl, sym, _∙_}
 use mathlib.Core.Bool.{Bool, true, false, not, cond, _&&_, false≢true}
 use Prim.Native.Nat.{ℕ, _≤_}
-use borrow.Author.Tests.{leb-true, ltb-true, eqb-true, ltb-false}
+use borrow.Author.Tests.{leb-true, ltb-true, eqb-true, ltb-false, le-leb, lt-ltb, eq-eqb}
 use lib.Dec.{leb, ltb, eqb}
 use lib.ListN.{length}
 use Rattle.kinds.specs.declared.Answer.{Answer}
@@ -11,17 +11,10 @@ use Rattle.kinds.specs.declared.Answer.the-variants.{Done, BadOrder, BadShift, 
 use Rattle.kinds.specs.Answers.{refuse, isDone, whenDone}
 use Rattle.rule.specs.Numbers.{accumulator}
 use Rattle.rule.specs.Prediction.{admitted, Ready}
-use Rattle.rule.specs.Refusals.{Config, orderFits, shiftFits, codingRefusal, encodingRefusal, orderSixRefusal}
+use Rattle.rule.specs.Configuration.{Config}
+use Rattle.rule.specs.Refusals.{orderFits, shiftFits, codingRefusal, encodingRefusal, orderSixRefusal}
 
--- tests 1, 2, 4 and 3 have passed, with a state of `state` samples
-pub record Passed (W : ℕ) (c : Config) (state : ℕ) : Type 0 where
-  pub some : 1 ≤ c .order
-  pub few : c .order ≤ 32
-  pub weights : length (c .weights) ≡ c .order
-  pub held : state ≡ c .order
-  pub ready : Ready W (c .shift) (c .bias) (c .weights)
-
-both : (a b : Bool) → (a && b) ≡ true → (a ≡ true) × (b ≡ true)
+pub both : (a b : Bool) → (a && b) ≡ true → (a ≡ true) × (b ≡ true)
 both true true h = (refl, refl)
 both true false h = absurd (false≢true h)
 both false b h = absurd (false≢true h)
@@ -35,19 +28,34 @@ all-pass true false c d h = absurd (false≢true h)
 all-pass false b c d h = absurd (false≢true h)
 
 module _ (W : ℕ) (c : Config) (state : ℕ) where
-  pub coding-passed : isDone (codingRefusal W c state) ≡ true → Passed W c state
+  pub coding-passed : isDone (codingRefusal W c state) ≡ true → Ready W c × (state ≡ c .order)
   unfolding codingRefusal
   coding-passed h =
       let t = all-pass (orderFits (c .order)) (shiftFits W (c .shift)) (eqb (length (c .weights)) (c .order) && eqb state (c .order)) (admitted W (c .bias) (c .weights)) h in
       let o = both (leb 1 (c .order)) (leb (c .order) 32) (t .0) in
-      let l = both (eqb (length (c .weights)) (c .order)) (eqb state (c .order)) (t .2) in
-      record {
-        some = leb-true 1 (c .order) (o .0);
-        few = leb-true (c .order) 32 (o .1);
-        weights = eqb-true (length (c .weights)) (c .order) (l .0);
-        held = eqb-true state (c .order) (l .1);
-        ready = record { shift = ltb-true (c .shift) (accumulator W) (t .1); admits = t .3 };
-      }
+      let l = both (eqb (length (c .weights)) (c .order)) (eqb state (c .order)) (t .2) in (
+        record {
+          some = leb-true 1 (c .order) (o .0);
+          few = leb-true (c .order) 32 (o .1);
+          shift = ltb-true (c .shift) (accumulator W) (t .1);
+          weights = eqb-true (length (c .weights)) (c .order) (l .0);
+          admits = t .3;
+        },
+        eqb-true state (c .order) (l .1),
+      )
+
+  -- and they pass where that holds
+  pub ready-passes : Ready W c → state ≡ c .order → codingRefusal W c state ≡ Done
+  unfolding codingRefusal
+  ready-passes r full =
+      rw (
+        le-leb 1 (c .order) (r .some),
+        le-leb (c .order) 32 (r .few),
+        lt-ltb (c .shift) (accumulator W) (r .shift),
+        eq-eqb (length (c .weights)) (c .order) (r .weights),
+        eq-eqb state (c .order) full,
+        r .admits,
+      )
 
   -- a later test that is made only where those before it passed
   then-done : (a : Answer) (t : Bool) → isDone (whenDone a (refuse t TooFewSamples Done) a) ≡ true → (isDone a ≡ true) × (t ≡ false)
@@ -58,17 +66,17 @@ module _ (W : ℕ) (c : Config) (state : ℕ) where
       go true false e h = (e, refl)
       go false t e h = absurd (false≢true (sym e ∙ h))
 
-  pub encoding-passed : (n : ℕ) → isDone (encodingRefusal W c state n) ≡ true → Passed W c state × (c .order ≤ n)
+  pub encoding-passed : (n : ℕ) → isDone (encodingRefusal W c state n) ≡ true → (Ready W c × (state ≡ c .order)) × (c .order ≤ n)
   unfolding encodingRefusal
   encoding-passed n h =
       let t = then-done (codingRefusal W c state) (ltb n (c .order)) h in
       (coding-passed (t .0), ltb-false n (c .order) (t .1))
 
-  six-done : (t : Bool) → isDone (refuse (not t) BadOrder (codingRefusal W c state)) ≡ true → (t ≡ true) × Passed W c state
+  six-done : (t : Bool) → isDone (refuse (not t) BadOrder (codingRefusal W c state)) ≡ true → (t ≡ true) × (Ready W c × (state ≡ c .order))
   six-done true h = (refl, coding-passed h)
   six-done false h = absurd (false≢true h)
 
-  pub order-six-passed : isDone (orderSixRefusal W c state) ≡ true → (c .order ≡ 6) × Passed W c state
+  pub order-six-passed : isDone (orderSixRefusal W c state) ≡ true → (c .order ≡ 6) × (Ready W c × (state ≡ c .order))
   unfolding orderSixRefusal
   order-six-passed h =
       let t = six-done (eqb (c .order) 6) h in

@@ -1,4 +1,4 @@
--- Document 01, "Accumulator rule": what it is to add the terms of a sum in any order.
+-- What it is to add the terms of a sum in any order.
 use mathlib.Core.List.{List, [], _∷_}
 use Prim.Native.Nat.{ℕ}
 use lib.IntN.{ℤ, pos, _+ℤ_, _*ℤ_}

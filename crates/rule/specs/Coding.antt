@@ -1,9 +1,9 @@
--- Document 01, "Prediction, encoding, decoding", over the width W, the order k and any predictor p, which is handed the k samples before a place.
+-- Encoding and decoding over the width W, the order k and any predictor p, which is handed the k samples before a place.
 use mathlib.Core.Bool.{cond}
 use mathlib.Core.List.{List, [], _∷_, _++_}
 use Prim.Native.Nat.{ℕ, suc, zero, _+_, _-_, _%_, _^_}
 use lib.Dec.{ltb}
-use lib.ListN.{length, getD, take, drop, replicate}
+use lib.ListN.{length, getD, take, drop}
 use Rattle.rule.specs.Numbers.{centre}
 
 -- f 0, f 1, .. f (n - 1)
@@ -30,10 +30,6 @@ codedAt W k p xs i = cond (ltb i k) (toggled W (getD xs i 0)) (residual W (getD 
 unfoldable pub encodedBuffer : ℕ → ℕ → (List ℕ → ℕ) → List ℕ → List ℕ
 encodedBuffer W k p xs = tabulate (length xs) (codedAt W k p xs)
 
--- the saved state: the first k samples, in an array of 32 whose places past k are 0
-unfoldable pub savedState : ℕ → List ℕ → List ℕ
-savedState k xs = take k xs ++ replicate (32 - k) 0
-
 -- MID taken from a residual, then the prediction added
 unfoldable pub restored : ℕ → ℕ → ℕ → ℕ
 restored W r y = (toggled W r + y) % 2 ^ W
@@ -53,10 +49,3 @@ decodedPiece W k p state piece = take (length piece) (extended W k p state piece
 
 unfoldable pub newState : ℕ → ℕ → (List ℕ → ℕ) → List ℕ → List ℕ → List ℕ
 newState W k p state piece = drop (length piece) (extended W k p state piece)
-
--- the same for a state in its array: the first k places are read, and the places past them are kept
-abbrev pub pieceFrom : ℕ → ℕ → (List ℕ → ℕ) → List ℕ → List ℕ → List ℕ
-pieceFrom W k p samples piece = decodedPiece W k p (take k samples) piece
-
-abbrev pub arrayAfter : ℕ → ℕ → (List ℕ → ℕ) → List ℕ → List ℕ → List ℕ
-arrayAfter W k p samples piece = newState W k p (take k samples) piece ++ drop k samples

@@ -1,4 +1,5 @@
 pub mod Numbers
+pub mod Configuration
 pub mod Prediction
 pub mod AnyOrder
 pub mod Coding

@@ -1,4 +1,4 @@
--- Document 01, "Numbers": what the width W of a sample, in bits, decides.
+-- What the width W of a sample, in bits, decides.
 use Prim.Native.Nat.{ℕ, _-_, _*_, _^_}
 
 -- M, the greatest sample

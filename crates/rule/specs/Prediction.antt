@@ -1,11 +1,13 @@
--- Document 01, "Accumulator rule" and the first rule of "Prediction, encoding, decoding", in whole numbers over the width W.
+-- The accumulator rule and the prediction, in whole numbers over the width W.
 use mathlib.Core.Path.{_≡_}
 use mathlib.Core.Bool.{Bool, true}
 use mathlib.Core.List.{List, [], _∷_}
-use Prim.Native.Nat.{ℕ, _+_, _*_, _/_, _%_, _^_, _<_}
+use Prim.Native.Nat.{ℕ, _+_, _*_, _/_, _%_, _^_, _≤_, _<_}
 use lib.Dec.{leb}
 use lib.IntN.{ℤ, pos, negsuc, natAbs, _+ℤ_, _*ℤ_}
+use lib.ListN.{length}
 use Rattle.rule.specs.Numbers.{greatest, accumulator, limit}
+use Rattle.rule.specs.Configuration.{Config}
 
 -- the sum of the absolute weights
 abbrev pub sumAbs : List ℤ → ℕ
@@ -31,11 +33,14 @@ clamped (negsuc n) = 0
 unfoldable pub settle : ℕ → ℕ → ℤ → ℕ
 settle W q s = clamped s / 2 ^ q % 2 ^ W
 
--- the prediction from a window of samples
-unfoldable pub prediction : ℕ → ℕ → ℤ → List ℤ → List ℕ → ℕ
-prediction W q bias ws window = settle W q (sumAt bias ws window)
+-- the prediction that a configuration makes from a window of k samples
+unfoldable pub prediction : ℕ → Config → List ℕ → ℕ
+prediction W c window = settle W (c .shift) (sumAt (c .bias) (c .weights) window)
 
--- what the code of a prediction leans on, once a call's tests have passed: the shift is below A, and the numbers are admitted
-pub record Ready (W q : ℕ) (bias : ℤ) (ws : List ℤ) : Type 0 where
-  pub shift : q < accumulator W
-  pub admits : admitted W bias ws ≡ true
+-- what coding leans on, once a call's tests have passed
+pub record Ready (W : ℕ) (c : Config) : Type 0 where
+  pub some : 1 ≤ c .order
+  pub few : c .order ≤ 32
+  pub shift : c .shift < accumulator W
+  pub weights : length (c .weights) ≡ c .order
+  pub admits : admitted W (c .bias) (c .weights) ≡ true

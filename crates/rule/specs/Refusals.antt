@@ -1,31 +1,14 @@
--- Document 01, "Refusal numbers", for coding: each test alone, and the order in which a call makes them.
+-- The refusals of coding: each test alone, and the order in which a call makes them.
 use mathlib.Core.Bool.{Bool, not, _&&_}
-use mathlib.Core.List.{List}
 use Prim.Native.Nat.{ℕ}
 use lib.Dec.{leb, ltb, eqb}
-use lib.IntN.{ℤ}
 use lib.ListN.{length}
-use Rattle.kinds.specs.declared.Order.{Order}
-use Rattle.kinds.specs.declared.Shift.{Shift}
 use Rattle.kinds.specs.declared.Answer.{Answer}
 use Rattle.kinds.specs.declared.Answer.the-variants.{Done, BadOrder, BadShift, Overflows, BadLength, TooFewSamples}
 use Rattle.kinds.specs.Answers.{refuse, whenDone}
 use Rattle.rule.specs.Numbers.{accumulator}
-use Rattle.rule.specs.Prediction.{admitted, prediction}
-
--- a configuration as a call is given it: the order, the shift, the bias and the weights
-pub record Config : Type 0 where
-  pub order : ℕ
-  pub shift : ℕ
-  pub bias : ℤ
-  pub weights : List ℤ
-
-abbrev pub config : Order → Shift → ℤ → List ℤ → Config
-config order shift bias weights = record { order = order .0; shift = shift .0; bias = bias; weights = weights }
-
--- the predictor of a configuration at the width W
-abbrev pub predictor : ℕ → Config → List ℕ → ℕ
-predictor W c = prediction W (c .shift) (c .bias) (c .weights)
+use Rattle.rule.specs.Configuration.{Config}
+use Rattle.rule.specs.Prediction.{admitted}
 
 -- 1 to 32
 abbrev pub orderFits : ℕ → Bool

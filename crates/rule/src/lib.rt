@@ -1,1 +1,1 @@
-// Nothing runs here: specs/ has document 01's rule and proofs/ its laws, which the crates above cite.
+// Nothing runs here: specs/ has the rule of coding and proofs/ its laws, which the crates above cite.

@@ -7,7 +7,8 @@ use lib.Dec.{ltb}
 use mir.Facts.{toZ-ofZ}
 use Rattle.kinds.specs.Widths.{bitsOf}
 use Rattle.kinds.specs.Answers.{isDone}
-use Rattle.rule.specs.Refusals.{config, codingRefusal, encodingRefusal}
+use Rattle.rule.specs.Configuration.{config}
+use Rattle.rule.specs.Refusals.{codingRefusal, encodingRefusal}
 use Rattle.admission.proofs.encoding_answer.Statement.{statement}
 use Rattle.admission.proofs.encoding_answer.Tie as tie
 

@@ -32,42 +32,42 @@ returns-2 c = simp (order-fits (c .before .before), sym (c .before .is-shift .en
 shift-fits : (c : tie.Else2) → let a = c .before .before .before .before .args in shiftFits (bitsOf (a .width)) (a .shift .0) ≡ true
 shift-fits c = sym (c .before .is-shift .ensures) ∙ not-false _ (c .if2 .left)
 
-is-whole-requires : tie.Need-is-whole-requires
-is-whole-requires c κs = search needs
+is-entire-requires : tie.Need-is-entire-requires
+is-entire-requires c κs = search needs
 
 returns-3 : tie.Need-returns-3
 unfolding layoutRefusal
-returns-3 c = simp (order-fits (c .before .before .before .before), shift-fits (c .before .before), sym (c .before .is-whole .ensures) ∙ not-true _ (c .if3 .taken))
+returns-3 c = simp (order-fits (c .before .before .before .before), shift-fits (c .before .before), sym (c .before .is-entire .ensures) ∙ not-true _ (c .if3 .taken))
 
 weights-whole : (c : tie.Else3) → eqb (c .before .before .before .before .before .before .args .weights % 4) 0 ≡ true
-weights-whole c = sym (c .before .is-whole .ensures) ∙ not-false _ (c .if3 .left)
+weights-whole c = sym (c .before .is-entire .ensures) ∙ not-false _ (c .if3 .left)
 
 sample-bytes-requires : tie.Need-sample-bytes-requires
 sample-bytes-requires c κs = search needs
 
-is-whole-requires-2 : tie.Need-is-whole-requires-2
-is-whole-requires-2 c κs = rw (c .sample-bytes .ensures) (some-bytes (c .before .before .before .before .before .before .before .args .width))
+is-entire-requires-2 : tie.Need-is-entire-requires-2
+is-entire-requires-2 c κs = rw (c .sample-bytes .ensures) (some-bytes (c .before .before .before .before .before .before .before .args .width))
 
 returns-4 : tie.Need-returns-4
 unfolding layoutRefusal
 returns-4 c =
-    let test = rw (c .before .before .sample-bytes .ensures) at (c .before .is-whole2 .ensures) in
+    let test = rw (c .before .before .sample-bytes .ensures) at (c .before .is-entire2 .ensures) in
     simp (order-fits (c .before .before .before .before .before .before .before), shift-fits (c .before .before .before .before .before), weights-whole (c .before .before .before), sym test ∙ not-true _ (c .if4 .taken))
 
 state-whole : (c : tie.Else4) → let a = c .before .before .before .before .before .before .before .before .before .args in eqb (a .state % (bitsOf (a .width) / 8)) 0 ≡ true
-state-whole c = sym (rw (c .before .before .sample-bytes .ensures) at (c .before .is-whole2 .ensures)) ∙ not-false _ (c .if4 .left)
+state-whole c = sym (rw (c .before .before .sample-bytes .ensures) at (c .before .is-entire2 .ensures)) ∙ not-false _ (c .if4 .left)
 
-is-whole-requires-3 : tie.Need-is-whole-requires-3
-is-whole-requires-3 c κs = rw (c .before .before .sample-bytes .ensures) (some-bytes (c .before .before .before .before .before .before .before .before .before .args .width))
+is-entire-requires-3 : tie.Need-is-entire-requires-3
+is-entire-requires-3 c κs = rw (c .before .before .sample-bytes .ensures) (some-bytes (c .before .before .before .before .before .before .before .before .before .args .width))
 
 returns-5 : tie.Need-returns-5
 unfolding layoutRefusal
 returns-5 c =
-    let test = rw (c .before .before .before .before .sample-bytes .ensures) at (c .before .is-whole3 .ensures) in
+    let test = rw (c .before .before .before .before .sample-bytes .ensures) at (c .before .is-entire3 .ensures) in
     simp (order-fits (c .before .before .before .before .before .before .before .before .before), shift-fits (c .before .before .before .before .before .before .before), weights-whole (c .before .before .before .before .before), state-whole (c .before .before), sym test ∙ not-true _ (c .if5 .taken))
 
 samples-whole : (c : tie.Else5) → let a = c .before .before .before .before .before .before .before .before .before .before .before .args in eqb (a .samples % (bitsOf (a .width) / 8)) 0 ≡ true
-samples-whole c = sym (rw (c .before .before .before .before .sample-bytes .ensures) at (c .before .is-whole3 .ensures)) ∙ not-false _ (c .if5 .left)
+samples-whole c = sym (rw (c .before .before .before .before .sample-bytes .ensures) at (c .before .is-entire3 .ensures)) ∙ not-false _ (c .if5 .left)
 
 returns-6 : tie.Need-returns-6
 unfolding layoutRefusal
@@ -101,12 +101,12 @@ layout-answer-spec =
     returns
     is-shift-requires
     returns-2
-    is-whole-requires
+    is-entire-requires
     returns-3
     sample-bytes-requires
-    is-whole-requires-2
+    is-entire-requires-2
     returns-4
-    is-whole-requires-3
+    is-entire-requires-3
     returns-5
     returns-6
     returns-7)

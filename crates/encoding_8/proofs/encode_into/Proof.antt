@@ -12,7 +12,8 @@ use lib.Seq.{length-take-le}
 use mir.Facts.{toZ-ofZ}
 use mir.Val.{toZ, ofZ}
 use Rattle.kinds.specs.Answers.{isDone}
-use Rattle.rule.specs.Refusals.{config, encodingRefusal}
+use Rattle.rule.specs.Configuration.{config}
+use Rattle.rule.specs.Refusals.{encodingRefusal}
 use Rattle.rule.proofs.Passing as passing
 use Rattle.predict.proofs.Converting as converting
 use Rattle.slices.proofs.Copying.{replaced}

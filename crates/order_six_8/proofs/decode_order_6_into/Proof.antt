@@ -11,7 +11,8 @@ use lib.ListN.{length, getD}
 use mir.Val.{SFits, toZ, ofZ}
 use mir.Facts.{toZ-ofZ}
 use Rattle.kinds.specs.Answers.{isDone}
-use Rattle.rule.specs.Refusals.{Config, config, orderSixRefusal}
+use Rattle.rule.specs.Configuration.{Config, config}
+use Rattle.rule.specs.Refusals.{orderSixRefusal}
 use Rattle.rule.proofs.Passing.{Passed, order-six-passed}
 use Rattle.rule.proofs.Sums as sums
 use Rattle.decoding.proofs.Starting as starting

@@ -12,7 +12,9 @@ use mir.Syntax.{w64}
 use mir.Val.{toZ, ofZ}
 use mir.Facts.{toZ-ofZ}
 use Rattle.kinds.specs.Answers.{isDone}
-use Rattle.rule.specs.Refusals.{config, predictor, codingRefusal}
+use Rattle.rule.specs.Configuration.{config}
+use Rattle.rule.specs.Prediction.{prediction}
+use Rattle.rule.specs.Refusals.{codingRefusal}
 use Rattle.rule.proofs.Passing.{coding-passed}
 use Rattle.byte_coding.proofs.Chunks as law
 use Rattle.sample_32.specs.Width.{W}
@@ -21,7 +23,7 @@ use Rattle.byte_coding_32.proofs.decoder.decode_chunks.Tie as tie
 
 abbrev Inv-loop : tie.InvT-loop
 Inv-loop fast order shift bias weights state₀ piece₀ room₀ n start₀ state piece room start =
-    (length room ≡ 512) × law.Going W (W / 8) (order .0) (predictor W (config order shift (toZ w64 bias) weights)) state₀ piece₀ state piece start
+    (length room ≡ 512) × law.Going W (W / 8) (order .0) (prediction W (config order shift (toZ w64 bias) weights)) state₀ piece₀ state piece start
 
 abbrev μ-loop : tie.MeasureT-loop
 μ-loop fast order shift bias weights state₀ piece₀ room₀ n start₀ state piece room start = length piece₀ / (W / 8) - start
@@ -29,7 +31,7 @@ abbrev μ-loop : tie.MeasureT-loop
 -- what holds at the start, in the terms of the laws
 module _ (s : tie.Start Inv-loop μ-loop) where
   abbrev p : List ℕ → ℕ
-  p = predictor W (config (s .args .order) (s .args .shift) (toZ w64 (ofZ w64 (s .args .bias))) (s .args .weights .now))
+  p = prediction W (config (s .args .order) (s .args .shift) (toZ w64 (ofZ w64 (s .args .bias))) (s .args .weights .now))
 
   begin : law.Begin (W / 8) (s .args .order .0) (s .args .state .now) (s .args .piece .now)
   begin = record { some = omega arith; full₀ = coding-passed W _ _ (s .pre .0 .passes) .held; whole = s .pre .1 .whole }

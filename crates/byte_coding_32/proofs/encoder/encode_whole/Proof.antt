@@ -9,7 +9,8 @@ use lib.ListN.{length, take}
 use lib.Seq.{length-take-le}
 use mir.Facts.{toZ-ofZ}
 use Rattle.kinds.specs.Answers.{isDone}
-use Rattle.rule.specs.Refusals.{Config, config, encodingRefusal}
+use Rattle.rule.specs.Configuration.{Config, config}
+use Rattle.rule.specs.Refusals.{encodingRefusal}
 use Rattle.rule.proofs.Passing as passing
 use Rattle.slices.proofs.Copying.{replaced}
 use Rattle.entries.proofs.Lists.{length-entries}

@@ -5,7 +5,7 @@ use borrow.Author.Needs.{needs}
 use lib.ListN.{length}
 use mir.Facts.{toZ-ofZ}
 use Rattle.kinds.specs.Answers.{isDone}
-use Rattle.rule.specs.Refusals.{config}
+use Rattle.rule.specs.Configuration.{config}
 use Rattle.calls.proofs.Ways.{refusals-agree}
 use Rattle.sample_8.specs.Width.{W}
 use Rattle.byte_coding_8.proofs.decoder.decode_samples.Statement.{statement}

@@ -7,7 +7,7 @@ use borrow.Author.Tests.{not-true, not-false}
 use lib.ListN.{length, take}
 use mir.Facts.{toZ-ofZ}
 use Rattle.kinds.specs.Answers.{isDone}
-use Rattle.rule.specs.Refusals.{Config, config}
+use Rattle.rule.specs.Configuration.{Config, config}
 use Rattle.byte_coding.specs.Bytes.{weightsIn}
 use Rattle.byte_coding.proofs.Lengths as lengths
 use Rattle.sample_8.specs.Width.{W}

@@ -12,7 +12,8 @@ use lib.Seq.{length-take-le}
 use mir.Facts.{toZ-ofZ}
 use Rattle.kinds.specs.Answers.{isDone}
 use Rattle.rule.specs.Coding.{encodedBuffer}
-use Rattle.rule.specs.Refusals.{Config, config, predictor}
+use Rattle.rule.specs.Configuration.{Config, config}
+use Rattle.rule.specs.Prediction.{prediction}
 use Rattle.rule.proofs.Passing.{coding-passed}
 use Rattle.entries.specs.Entries.{entries}
 use Rattle.byte_coding.proofs.Coded as law
@@ -35,7 +36,7 @@ module _ (c : tie.After-least) where
   k = start .args .order .0
 
   abbrev p : List ℕ → ℕ
-  p = predictor W given
+  p = prediction W given
 
   abbrev bytes : List ℕ
   bytes = start .args .samples .now
@@ -142,7 +143,7 @@ module _ (c : tie.After-encode-into) where
   out-is : out ≡ encodedBuffer W (k a) (p a) (take (m a) (drop (from a) (entries (W / 8) (bytes a))))
   out-is =
       law.left-done (c .encode-into .result) out _ _ done (c .encode-into .ensures .1 .0)
-      ∙ ap₂ (λ (b : ℤ). encodedBuffer W (k a) (predictor W (with b))) (toZ-ofZ (start a .fits .bias)) (front l)
+      ∙ ap₂ (λ (b : ℤ). encodedBuffer W (k a) (prediction W (with b))) (toZ-ofZ (start a .fits .bias)) (front l)
 
 mul-place : tie.Need-mul-place
 mul-place c = let v = a (c .before .before) in omega (arith, law.start-within (piece v), start v .good)
