@@ -1,5 +1,6 @@
-// What other languages call for samples. Every function answers with a refusal number; a refusal changes no lent slice.
+// What other languages call for samples of this width. Every function answers with a refusal number; a refusal changes no lent slice.
 // include/claspotter.h describes it.
+use calls::Way;
 use kinds::Answer;
 use kinds::Order;
 use kinds::Shift;
@@ -7,13 +8,15 @@ use sample_32::Sample;
 use sample_32::WIDTH;
 ghost use mathlib.Core.Path.{_≡_};
 ghost use mathlib.Core.Bool.{not};
-ghost use lib.ListN.{length};
 ghost use Rattle.kinds.specs.declared.Answer.the-variants.{Done, Overflows};
 ghost use Rattle.kinds.specs.Answers.{numberOf, refuse};
 ghost use Rattle.rule.specs.Prediction.{admitted};
-ghost use Rattle.rule.specs.Refusals.{codingRefusal, encodingRefusal, orderSixRefusal};
-ghost use Rattle.boundary.specs.Calls.{configOf, samplesAfter, savedAfter, pieceAfter, stateAfter, bytesConfig, samplesBytesAfter, savedBytesAfter, pieceBytesAfter, stateBytesAfter};
-ghost use Rattle.byte_coding.specs.Bytes.{ragged, codingBytes, orderSixBytes, encodingBytes};
+ghost use Rattle.calls.specs.declared.Way.the-variants.{General, OrderSix};
+ghost use Rattle.calls.specs.Encode as encoding;
+ghost use Rattle.calls.specs.Decode as decoding;
+ghost use Rattle.byte_coding.specs.Bytes.{weightsIn, ragged};
+ghost use Rattle.byte_coding.specs.Calls.{encodeBytes, decodeBytes};
+ghost use Rattle.boundary.specs.Calls.{given};
 ghost use Rattle.quantising.specs.Lent.{quantisedFrom, filledFrom};
 ghost use Rattle.sample_32.specs.Width.{W};
 
@@ -38,18 +41,11 @@ pub extern "C" fn claspotter_encode_u32(
     samples: &mut [Sample],
     state: &mut [Sample],
 ) -> u32
-    ensures { λ r. ⌜ r ≡ numberOf (encodingRefusal W (configOf order shift bias (now (weights .entry))) (length (now (state .entry))) (length (now (samples .entry)))) ⌝ }
-    ensures { λ _. ⌜ now (samples .exit) ≡ samplesAfter W (configOf order shift bias (now (weights .entry))) (encodingRefusal W (configOf order shift bias (now (weights .entry))) (length (now (state .entry))) (length (now (samples .entry)))) (now (samples .entry)) ⌝ }
-    ensures { λ _. ⌜ now (state .exit) ≡ savedAfter (configOf order shift bias (now (weights .entry))) (encodingRefusal W (configOf order shift bias (now (weights .entry))) (length (now (state .entry))) (length (now (samples .entry)))) (now (samples .entry)) (now (state .entry)) ⌝ }
+    ensures { λ r. ⌜ encoding.leftNumbered r (now (samples .exit)) (now (state .exit)) ≡ encoding.numbered (encoding.encode W (given order shift bias (now (weights .entry))) (now (samples .entry)) (now (state .entry))) ⌝ }
 {
-    kinds::number(encoding_32::encode_into(
-        Order(order),
-        Shift(shift),
-        bias,
-        weights,
-        samples,
-        state,
-    ))
+    let said = encoding_32::encode_into(Order(order), Shift(shift), bias, weights, samples, state);
+    let answer = said.answer;
+    kinds::number(answer)
 }
 
 // Decodes a piece in place from the state, which becomes the one for the piece that follows.
@@ -62,11 +58,11 @@ pub extern "C" fn claspotter_decode_u32(
     state: &mut [Sample],
     piece: &mut [Sample],
 ) -> u32
-    ensures { λ r. ⌜ r ≡ numberOf (codingRefusal W (configOf order shift bias (now (weights .entry))) (length (now (state .entry)))) ⌝ }
-    ensures { λ _. ⌜ now (piece .exit) ≡ pieceAfter W (configOf order shift bias (now (weights .entry))) (codingRefusal W (configOf order shift bias (now (weights .entry))) (length (now (state .entry)))) (now (state .entry)) (now (piece .entry)) ⌝ }
-    ensures { λ _. ⌜ now (state .exit) ≡ stateAfter W (configOf order shift bias (now (weights .entry))) (codingRefusal W (configOf order shift bias (now (weights .entry))) (length (now (state .entry)))) (now (state .entry)) (now (piece .entry)) ⌝ }
+    ensures { λ r. ⌜ decoding.leftNumbered r (now (state .exit)) (now (piece .exit)) ≡ decoding.numbered (decoding.decode W (given order shift bias (now (weights .entry))) (now (state .entry)) (now (piece .entry))) ⌝ }
 {
-    kinds::number(decoding_32::decode_into(Order(order), Shift(shift), bias, weights, state, piece))
+    let said = decoding_32::decode_into(Order(order), Shift(shift), bias, weights, state, piece);
+    let answer = said.answer;
+    kinds::number(answer)
 }
 
 // The same by the general way, at order 6 too.
@@ -79,18 +75,19 @@ pub extern "C" fn claspotter_decode_general_u32(
     state: &mut [Sample],
     piece: &mut [Sample],
 ) -> u32
-    ensures { λ r. ⌜ r ≡ numberOf (codingRefusal W (configOf order shift bias (now (weights .entry))) (length (now (state .entry)))) ⌝ }
-    ensures { λ _. ⌜ now (piece .exit) ≡ pieceAfter W (configOf order shift bias (now (weights .entry))) (codingRefusal W (configOf order shift bias (now (weights .entry))) (length (now (state .entry)))) (now (state .entry)) (now (piece .entry)) ⌝ }
-    ensures { λ _. ⌜ now (state .exit) ≡ stateAfter W (configOf order shift bias (now (weights .entry))) (codingRefusal W (configOf order shift bias (now (weights .entry))) (length (now (state .entry)))) (now (state .entry)) (now (piece .entry)) ⌝ }
+    ensures { λ r. ⌜ decoding.leftNumbered r (now (state .exit)) (now (piece .exit)) ≡ decoding.numbered (decoding.decodeBy General W (given order shift bias (now (weights .entry))) (now (state .entry)) (now (piece .entry))) ⌝ }
 {
-    kinds::number(general_way_32::decode_into(
+    let said = decoding_32::decode_by(
+        Way::General,
         Order(order),
         Shift(shift),
         bias,
         weights,
         state,
         piece,
-    ))
+    );
+    let answer = said.answer;
+    kinds::number(answer)
 }
 
 // The same by the way of order 6, which refuses every other order.
@@ -103,18 +100,19 @@ pub extern "C" fn claspotter_decode_order_6_u32(
     state: &mut [Sample],
     piece: &mut [Sample],
 ) -> u32
-    ensures { λ r. ⌜ r ≡ numberOf (orderSixRefusal W (configOf order shift bias (now (weights .entry))) (length (now (state .entry)))) ⌝ }
-    ensures { λ _. ⌜ now (piece .exit) ≡ pieceAfter W (configOf order shift bias (now (weights .entry))) (orderSixRefusal W (configOf order shift bias (now (weights .entry))) (length (now (state .entry)))) (now (state .entry)) (now (piece .entry)) ⌝ }
-    ensures { λ _. ⌜ now (state .exit) ≡ stateAfter W (configOf order shift bias (now (weights .entry))) (orderSixRefusal W (configOf order shift bias (now (weights .entry))) (length (now (state .entry)))) (now (state .entry)) (now (piece .entry)) ⌝ }
+    ensures { λ r. ⌜ decoding.leftNumbered r (now (state .exit)) (now (piece .exit)) ≡ decoding.numbered (decoding.decodeBy OrderSix W (given order shift bias (now (weights .entry))) (now (state .entry)) (now (piece .entry))) ⌝ }
 {
-    kinds::number(order_six_32::decode_order_6_into(
+    let said = decoding_32::decode_by(
+        Way::OrderSix,
         Order(order),
         Shift(shift),
         bias,
         weights,
         state,
         piece,
-    ))
+    );
+    let answer = said.answer;
+    kinds::number(answer)
 }
 
 // `claspotter_encode_u32` over bytes: little-endian samples, and weights of four bytes.
@@ -127,18 +125,18 @@ pub extern "C" fn claspotter_encode_bytes_32(
     samples: &mut [u8],
     state: &mut [u8],
 ) -> u32
-    ensures { λ r. ⌜ r ≡ numberOf (encodingBytes W (bytesConfig order shift bias (now (weights .entry))) (ragged W (now (weights .entry)) (now (state .entry)) (now (samples .entry))) (now (state .entry)) (now (samples .entry))) ⌝ }
-    ensures { λ _. ⌜ now (samples .exit) ≡ samplesBytesAfter W (bytesConfig order shift bias (now (weights .entry))) (encodingBytes W (bytesConfig order shift bias (now (weights .entry))) (ragged W (now (weights .entry)) (now (state .entry)) (now (samples .entry))) (now (state .entry)) (now (samples .entry))) (now (samples .entry)) ⌝ }
-    ensures { λ _. ⌜ now (state .exit) ≡ savedBytesAfter W (bytesConfig order shift bias (now (weights .entry))) (encodingBytes W (bytesConfig order shift bias (now (weights .entry))) (ragged W (now (weights .entry)) (now (state .entry)) (now (samples .entry))) (now (state .entry)) (now (samples .entry))) (now (samples .entry)) (now (state .entry)) ⌝ }
+    ensures { λ r. ⌜ encoding.leftNumbered r (now (samples .exit)) (now (state .exit)) ≡ encoding.numbered (encodeBytes W (given order shift bias (weightsIn (now (weights .entry)))) (ragged W (now (weights .entry)) (now (state .entry)) (now (samples .entry))) (now (samples .entry)) (now (state .entry))) ⌝ }
 {
-    kinds::number(byte_coding_32::encoder::encode(
+    let said = byte_coding_32::encoder::encode(
         Order(order),
         Shift(shift),
         bias,
         weights,
         samples,
         state,
-    ))
+    );
+    let answer = said.answer;
+    kinds::number(answer)
 }
 
 // `claspotter_decode_u32` over bytes.
@@ -151,18 +149,18 @@ pub extern "C" fn claspotter_decode_bytes_32(
     state: &mut [u8],
     piece: &mut [u8],
 ) -> u32
-    ensures { λ r. ⌜ r ≡ numberOf (codingBytes W (bytesConfig order shift bias (now (weights .entry))) (ragged W (now (weights .entry)) (now (state .entry)) (now (piece .entry))) (now (state .entry))) ⌝ }
-    ensures { λ _. ⌜ now (piece .exit) ≡ pieceBytesAfter W (bytesConfig order shift bias (now (weights .entry))) (codingBytes W (bytesConfig order shift bias (now (weights .entry))) (ragged W (now (weights .entry)) (now (state .entry)) (now (piece .entry))) (now (state .entry))) (now (state .entry)) (now (piece .entry)) ⌝ }
-    ensures { λ _. ⌜ now (state .exit) ≡ stateBytesAfter W (bytesConfig order shift bias (now (weights .entry))) (codingBytes W (bytesConfig order shift bias (now (weights .entry))) (ragged W (now (weights .entry)) (now (state .entry)) (now (piece .entry))) (now (state .entry))) (now (state .entry)) (now (piece .entry)) ⌝ }
+    ensures { λ r. ⌜ decoding.leftNumbered r (now (state .exit)) (now (piece .exit)) ≡ decoding.numbered (decodeBytes General W (given order shift bias (weightsIn (now (weights .entry)))) (ragged W (now (weights .entry)) (now (state .entry)) (now (piece .entry))) (now (state .entry)) (now (piece .entry))) ⌝ }
 {
-    kinds::number(byte_coding_32::decoder::decode(
+    let said = byte_coding_32::decoder::decode(
         Order(order),
         Shift(shift),
         bias,
         weights,
         state,
         piece,
-    ))
+    );
+    let answer = said.answer;
+    kinds::number(answer)
 }
 
 // `claspotter_decode_general_u32` over bytes.
@@ -175,18 +173,19 @@ pub extern "C" fn claspotter_decode_general_bytes_32(
     state: &mut [u8],
     piece: &mut [u8],
 ) -> u32
-    ensures { λ r. ⌜ r ≡ numberOf (codingBytes W (bytesConfig order shift bias (now (weights .entry))) (ragged W (now (weights .entry)) (now (state .entry)) (now (piece .entry))) (now (state .entry))) ⌝ }
-    ensures { λ _. ⌜ now (piece .exit) ≡ pieceBytesAfter W (bytesConfig order shift bias (now (weights .entry))) (codingBytes W (bytesConfig order shift bias (now (weights .entry))) (ragged W (now (weights .entry)) (now (state .entry)) (now (piece .entry))) (now (state .entry))) (now (state .entry)) (now (piece .entry)) ⌝ }
-    ensures { λ _. ⌜ now (state .exit) ≡ stateBytesAfter W (bytesConfig order shift bias (now (weights .entry))) (codingBytes W (bytesConfig order shift bias (now (weights .entry))) (ragged W (now (weights .entry)) (now (state .entry)) (now (piece .entry))) (now (state .entry))) (now (state .entry)) (now (piece .entry)) ⌝ }
+    ensures { λ r. ⌜ decoding.leftNumbered r (now (state .exit)) (now (piece .exit)) ≡ decoding.numbered (decodeBytes General W (given order shift bias (weightsIn (now (weights .entry)))) (ragged W (now (weights .entry)) (now (state .entry)) (now (piece .entry))) (now (state .entry)) (now (piece .entry))) ⌝ }
 {
-    kinds::number(byte_coding_32::decoder::decode_general(
+    let said = byte_coding_32::decoder::decode_by(
+        Way::General,
         Order(order),
         Shift(shift),
         bias,
         weights,
         state,
         piece,
-    ))
+    );
+    let answer = said.answer;
+    kinds::number(answer)
 }
 
 // `claspotter_decode_order_6_u32` over bytes.
@@ -199,18 +198,19 @@ pub extern "C" fn claspotter_decode_order_6_bytes_32(
     state: &mut [u8],
     piece: &mut [u8],
 ) -> u32
-    ensures { λ r. ⌜ r ≡ numberOf (orderSixBytes W (bytesConfig order shift bias (now (weights .entry))) (ragged W (now (weights .entry)) (now (state .entry)) (now (piece .entry))) (now (state .entry))) ⌝ }
-    ensures { λ _. ⌜ now (piece .exit) ≡ pieceBytesAfter W (bytesConfig order shift bias (now (weights .entry))) (orderSixBytes W (bytesConfig order shift bias (now (weights .entry))) (ragged W (now (weights .entry)) (now (state .entry)) (now (piece .entry))) (now (state .entry))) (now (state .entry)) (now (piece .entry)) ⌝ }
-    ensures { λ _. ⌜ now (state .exit) ≡ stateBytesAfter W (bytesConfig order shift bias (now (weights .entry))) (orderSixBytes W (bytesConfig order shift bias (now (weights .entry))) (ragged W (now (weights .entry)) (now (state .entry)) (now (piece .entry))) (now (state .entry))) (now (state .entry)) (now (piece .entry)) ⌝ }
+    ensures { λ r. ⌜ decoding.leftNumbered r (now (state .exit)) (now (piece .exit)) ≡ decoding.numbered (decodeBytes OrderSix W (given order shift bias (weightsIn (now (weights .entry)))) (ragged W (now (weights .entry)) (now (state .entry)) (now (piece .entry))) (now (state .entry)) (now (piece .entry))) ⌝ }
 {
-    kinds::number(byte_coding_32::decoder::decode_order_6(
+    let said = byte_coding_32::decoder::decode_by(
+        Way::OrderSix,
         Order(order),
         Shift(shift),
         bias,
         weights,
         state,
         piece,
-    ))
+    );
+    let answer = said.answer;
+    kinds::number(answer)
 }
 
 // Float weights to a configuration: its weights fill the lent slice, its shift and bias go to the lent numbers. Beside a refusal both

@@ -1,84 +1,57 @@
 // Decoding samples that lie in bytes.
-use kinds::Answer;
+use calls::DecodeAnswer;
+use calls::Way;
 use kinds::Order;
 use kinds::SampleCount;
 use kinds::Shift;
+use predict_32::config::Config;
 use sample_32::BYTES;
 use sample_32::Sample;
 use sample_32::WIDTH;
 ghost use mathlib.Core.Path.{_≡_};
-ghost use mathlib.Core.Bool.{true};
 ghost use Prim.Native.Nat.{_/_, _≤_};
 ghost use lib.ListN.{length};
-ghost use Rattle.kinds.specs.Answers.{whenDone};
-ghost use Rattle.rule.specs.Coding.{decodedPiece, newState};
 ghost use Rattle.rule.specs.Configuration.{config};
 ghost use Rattle.rule.specs.Prediction.{prediction};
-ghost use Rattle.rule.specs.Refusals.{codingRefusal};
-ghost use Rattle.byte_coding.specs.Bytes.{samplesIn, samplesBytes, weightsIn, ragged, codingBytes, orderSixBytes};
-ghost use Rattle.byte_coding.specs.Lengths.{Whole};
-ghost use Rattle.byte_coding.specs.DecodingSteps.{Allowed, Decoded};
+ghost use Rattle.rule.specs.Coding.{decodedPiece, newState};
+ghost use Rattle.calls.specs.declared.Way.the-variants.{General};
+ghost use Rattle.calls.specs.Decode.{left};
+ghost use Rattle.calls.specs.Pieces.{Fits};
+ghost use Rattle.predict_32.specs.Configuration.{configOf};
+ghost use Rattle.decoding.specs.Steps.{Startable};
+ghost use Rattle.byte_coding.specs.Bytes.{samplesIn, samplesBytes, weightsIn, ragged};
+ghost use Rattle.byte_coding.specs.Calls.{decodeLaid, decodeBytes};
+ghost use Rattle.byte_coding.specs.Lengths.{Entire};
 ghost use Rattle.sample_32.specs.Width.{W};
 
 // Samples to a chunk.
 const CHUNK: usize = 512;
 
-// Either way decodes the same; the fast one only at order 6.
-fn decode_samples(
-    fast: bool,
-    order: Order,
-    shift: Shift,
-    bias: i64,
-    weights: &[i32],
-    state: &mut [Sample],
-    piece: &mut [Sample],
-)
-    requires { ⌜ Allowed W (config order shift bias (now weights)) fast (now state) ⌝ }
-    ensures { λ _. ⌜ Decoded W (config order shift bias (now (weights .entry))) (now (state .entry)) (now (piece .entry)) (now (piece .exit)) (now (state .exit)) ⌝ }
-{
-    if fast {
-        order_six_32::decode_order_6_into(order, shift, bias, weights, state, piece);
-    } else {
-        general_way_32::decode_into(order, shift, bias, weights, state, piece);
-    }
-}
-
 // Decodes what fits the room.
 fn decode_chunk(
-    fast: bool,
-    order: Order,
-    shift: Shift,
-    bias: i64,
-    weights: &[i32],
+    way: Way,
+    config: Config,
     state: &mut [Sample],
     room: &mut [Sample],
     piece: &mut [u8],
 )
-    requires { ⌜ Allowed W (config order shift bias (now weights)) fast (now state) ⌝ }
-    requires { ⌜ Whole W (now piece) × (length (now piece) / (W / 8) ≤ length (now room)) ⌝ }
-    ensures { λ _. ⌜ now (piece .exit) ≡ samplesBytes W (decodedPiece W (order .0) (prediction W (config order shift bias (now (weights .entry)))) (now (state .entry)) (samplesIn W (now (piece .entry)))) ⌝ }
-    ensures { λ _. ⌜ now (state .exit) ≡ newState W (order .0) (prediction W (config order shift bias (now (weights .entry)))) (now (state .entry)) (samplesIn W (now (piece .entry))) ⌝ }
+    requires { ⌜ Startable W (configOf config) (now state) × Fits (configOf config) way ⌝ }
+    requires { ⌜ Entire W (now piece) × (length (now piece) / (W / 8) ≤ length (now room)) ⌝ }
+    ensures { λ _. ⌜ now (piece .exit) ≡ samplesBytes W (decodedPiece W (config .order .0) (prediction W (configOf config)) (now (state .entry)) (samplesIn W (now (piece .entry)))) ⌝ }
+    ensures { λ _. ⌜ now (state .exit) ≡ newState W (config .order .0) (prediction W (configOf config)) (now (state .entry)) (samplesIn W (now (piece .entry))) ⌝ }
 {
     let n = piece.len() / BYTES;
     entries_32::load(piece, room);
-    decode_samples(fast, order, shift, bias, weights, state, &mut room[..n]);
+    decoding_32::decode_samples(way, config, state, &mut room[..n]);
     entries_32::store(&room[..n], piece);
 }
 
 // Chunk after chunk, each from the state that the one before it left.
-fn decode_chunks(
-    fast: bool,
-    order: Order,
-    shift: Shift,
-    bias: i64,
-    weights: &[i32],
-    state: &mut [Sample],
-    piece: &mut [u8],
-)
-    requires { ⌜ Allowed W (config order shift bias (now weights)) fast (now state) ⌝ }
-    requires { ⌜ Whole W (now piece) ⌝ }
-    ensures { λ _. ⌜ now (piece .exit) ≡ samplesBytes W (decodedPiece W (order .0) (prediction W (config order shift bias (now (weights .entry)))) (now (state .entry)) (samplesIn W (now (piece .entry)))) ⌝ }
-    ensures { λ _. ⌜ now (state .exit) ≡ newState W (order .0) (prediction W (config order shift bias (now (weights .entry)))) (now (state .entry)) (samplesIn W (now (piece .entry))) ⌝ }
+fn decode_chunks(way: Way, config: Config, state: &mut [Sample], piece: &mut [u8])
+    requires { ⌜ Startable W (configOf config) (now state) × Fits (configOf config) way ⌝ }
+    requires { ⌜ Entire W (now piece) ⌝ }
+    ensures { λ _. ⌜ now (piece .exit) ≡ samplesBytes W (decodedPiece W (config .order .0) (prediction W (configOf config)) (now (state .entry)) (samplesIn W (now (piece .entry)))) ⌝ }
+    ensures { λ _. ⌜ now (state .exit) ≡ newState W (config .order .0) (prediction W (configOf config)) (now (state .entry)) (samplesIn W (now (piece .entry))) ⌝ }
 {
     let mut room: [Sample; 512] = [0; 512];
     let n = piece.len() / BYTES;
@@ -87,71 +60,52 @@ fn decode_chunks(
         let end = start + slices::least(n - start, CHUNK);
         let from = BYTES * start;
         let to = BYTES * end;
-        decode_chunk(
-            fast,
-            order,
-            shift,
-            bias,
-            weights,
-            state,
-            &mut room,
-            &mut piece[from..to],
-        );
+        decode_chunk(way, config, state, &mut room, &mut piece[from..to]);
         start = end;
     }
 }
 
-// Decodes with the weights at hand, once every byte length is known to be whole.
-fn decode_whole(
-    fast: bool,
+// Decodes with the weights at hand, once every byte length is known to be entire.
+fn decode_laid(
+    way: Way,
     order: Order,
     shift: Shift,
     bias: i64,
     weights: &[i32],
     state: &mut [u8],
     piece: &mut [u8],
-) -> Answer
-    requires { ⌜ Whole W (now state) × Whole W (now piece) ⌝ }
-    requires { ⌜ (fast ≡ true → order .0 ≡ 6) ⌝ }
-    ensures { λ r. ⌜ r ≡ codingRefusal W (config order shift bias (now (weights .entry))) (length (samplesIn W (now (state .entry)))) ⌝ }
-    ensures { λ r. ⌜ now (piece .exit) ≡ whenDone r (samplesBytes W (decodedPiece W (order .0) (prediction W (config order shift bias (now (weights .entry)))) (samplesIn W (now (state .entry))) (samplesIn W (now (piece .entry))))) (now (piece .entry)) ⌝ }
-    ensures { λ r. ⌜ now (state .exit) ≡ whenDone r (samplesBytes W (newState W (order .0) (prediction W (config order shift bias (now (weights .entry)))) (samplesIn W (now (state .entry))) (samplesIn W (now (piece .entry))))) (now (state .entry)) ⌝ }
+) -> DecodeAnswer
+    requires { ⌜ Entire W (now state) × Entire W (now piece) ⌝ }
+    ensures { λ r. ⌜ left r (now (state .exit)) (now (piece .exit)) ≡ decodeLaid way W (config order shift bias (now (weights .entry))) (now (state .entry)) (now (piece .entry)) ⌝ }
 {
-    let answer = admission::coding_answer(
-        WIDTH,
-        order,
-        shift,
-        bias,
-        weights,
-        SampleCount(state.len() / BYTES),
-    );
+    let count = SampleCount(state.len() / BYTES);
+    let answer = decoding::answer_by(way, WIDTH, order, shift, bias, weights, count);
     if !kinds::is_done(answer) {
-        return answer;
+        return DecodeAnswer { answer };
     }
     let k = order.0;
     let mut held: [Sample; 32] = [0; 32];
     entries_32::load(state, &mut held);
-    decode_chunks(fast, order, shift, bias, weights, &mut held[..k], piece);
+    let config = predict_32::config::conv(order, shift, bias, weights);
+    decode_chunks(way, config, &mut held[..k], piece);
     entries_32::store(&held[..k], state);
-    answer
+    DecodeAnswer { answer }
 }
 
-// Loads the weights, once the lengths in bytes are known to be right, and decodes by the way that is asked for.
-fn decode_by(
-    fast: bool,
+// Decodes a piece where it lies, by the way that is asked for; the bytes of the new state take the state's place.
+pub fn decode_by(
+    way: Way,
     order: Order,
     shift: Shift,
     bias: i64,
     weights: &[u8],
     state: &mut [u8],
     piece: &mut [u8],
-) -> Answer
-    requires { ⌜ (fast ≡ true → order .0 ≡ 6) ⌝ }
-    ensures { λ r. ⌜ r ≡ codingBytes W (config order shift bias (weightsIn (now (weights .entry)))) (ragged W (now (weights .entry)) (now (state .entry)) (now (piece .entry))) (now (state .entry)) ⌝ }
-    ensures { λ r. ⌜ now (piece .exit) ≡ whenDone r (samplesBytes W (decodedPiece W (order .0) (prediction W (config order shift bias (weightsIn (now (weights .entry))))) (samplesIn W (now (state .entry))) (samplesIn W (now (piece .entry))))) (now (piece .entry)) ⌝ }
-    ensures { λ r. ⌜ now (state .exit) ≡ whenDone r (samplesBytes W (newState W (order .0) (prediction W (config order shift bias (weightsIn (now (weights .entry))))) (samplesIn W (now (state .entry))) (samplesIn W (now (piece .entry))))) (now (state .entry)) ⌝ }
+) -> DecodeAnswer
+    ensures { λ r. ⌜ left r (now (state .exit)) (now (piece .exit)) ≡ decodeBytes way W (config order shift bias (weightsIn (now (weights .entry)))) (ragged W (now (weights .entry)) (now (state .entry)) (now (piece .entry))) (now (state .entry)) (now (piece .entry)) ⌝ }
 {
-    let early = byte_coding::layout_answer(
+    let answer = byte_coding::layout_answer_by(
+        way,
         WIDTH,
         order,
         shift,
@@ -159,16 +113,16 @@ fn decode_by(
         state.len(),
         piece.len(),
     );
-    if !kinds::is_done(early) {
-        return early;
+    if !kinds::is_done(answer) {
+        return DecodeAnswer { answer };
     }
     let k = order.0;
     let mut numbers: [i32; 32] = [0; 32];
     entries::weights::load_i32(weights, &mut numbers);
-    decode_whole(fast, order, shift, bias, &numbers[..k], state, piece)
+    decode_laid(way, order, shift, bias, &numbers[..k], state, piece)
 }
 
-// The user's way: the order-6 way at order 6, the general way elsewhere.
+// The same by the quicker way.
 pub fn decode(
     order: Order,
     shift: Shift,
@@ -176,45 +130,16 @@ pub fn decode(
     weights: &[u8],
     state: &mut [u8],
     piece: &mut [u8],
-) -> Answer
-    ensures { λ r. ⌜ r ≡ codingBytes W (config order shift bias (weightsIn (now (weights .entry)))) (ragged W (now (weights .entry)) (now (state .entry)) (now (piece .entry))) (now (state .entry)) ⌝ }
-    ensures { λ r. ⌜ now (piece .exit) ≡ whenDone r (samplesBytes W (decodedPiece W (order .0) (prediction W (config order shift bias (weightsIn (now (weights .entry))))) (samplesIn W (now (state .entry))) (samplesIn W (now (piece .entry))))) (now (piece .entry)) ⌝ }
-    ensures { λ r. ⌜ now (state .exit) ≡ whenDone r (samplesBytes W (newState W (order .0) (prediction W (config order shift bias (weightsIn (now (weights .entry))))) (samplesIn W (now (state .entry))) (samplesIn W (now (piece .entry))))) (now (state .entry)) ⌝ }
+) -> DecodeAnswer
+    ensures { λ r. ⌜ left r (now (state .exit)) (now (piece .exit)) ≡ decodeBytes General W (config order shift bias (weightsIn (now (weights .entry)))) (ragged W (now (weights .entry)) (now (state .entry)) (now (piece .entry))) (now (state .entry)) (now (piece .entry)) ⌝ }
 {
-    decode_by(order.0 == 6, order, shift, bias, weights, state, piece)
-}
-
-// The general way, at any order.
-pub fn decode_general(
-    order: Order,
-    shift: Shift,
-    bias: i64,
-    weights: &[u8],
-    state: &mut [u8],
-    piece: &mut [u8],
-) -> Answer
-    ensures { λ r. ⌜ r ≡ codingBytes W (config order shift bias (weightsIn (now (weights .entry)))) (ragged W (now (weights .entry)) (now (state .entry)) (now (piece .entry))) (now (state .entry)) ⌝ }
-    ensures { λ r. ⌜ now (piece .exit) ≡ whenDone r (samplesBytes W (decodedPiece W (order .0) (prediction W (config order shift bias (weightsIn (now (weights .entry))))) (samplesIn W (now (state .entry))) (samplesIn W (now (piece .entry))))) (now (piece .entry)) ⌝ }
-    ensures { λ r. ⌜ now (state .exit) ≡ whenDone r (samplesBytes W (newState W (order .0) (prediction W (config order shift bias (weightsIn (now (weights .entry))))) (samplesIn W (now (state .entry))) (samplesIn W (now (piece .entry))))) (now (state .entry)) ⌝ }
-{
-    decode_by(false, order, shift, bias, weights, state, piece)
-}
-
-// The way of order 6, which refuses every other order first.
-pub fn decode_order_6(
-    order: Order,
-    shift: Shift,
-    bias: i64,
-    weights: &[u8],
-    state: &mut [u8],
-    piece: &mut [u8],
-) -> Answer
-    ensures { λ r. ⌜ r ≡ orderSixBytes W (config order shift bias (weightsIn (now (weights .entry)))) (ragged W (now (weights .entry)) (now (state .entry)) (now (piece .entry))) (now (state .entry)) ⌝ }
-    ensures { λ r. ⌜ now (piece .exit) ≡ whenDone r (samplesBytes W (decodedPiece W (order .0) (prediction W (config order shift bias (weightsIn (now (weights .entry))))) (samplesIn W (now (state .entry))) (samplesIn W (now (piece .entry))))) (now (piece .entry)) ⌝ }
-    ensures { λ r. ⌜ now (state .exit) ≡ whenDone r (samplesBytes W (newState W (order .0) (prediction W (config order shift bias (weightsIn (now (weights .entry))))) (samplesIn W (now (state .entry))) (samplesIn W (now (piece .entry))))) (now (state .entry)) ⌝ }
-{
-    if order.0 != 6 {
-        return Answer::BadOrder;
-    }
-    decode_by(true, order, shift, bias, weights, state, piece)
+    decode_by(
+        decoding::quickest_way(order),
+        order,
+        shift,
+        bias,
+        weights,
+        state,
+        piece,
+    )
 }

@@ -1,25 +1,25 @@
-// Decoding samples with the state by value: the lent calls, on the places of the state's array that its count says.
-use kinds::Answer;
+// Decoding with the state by value: the lent calls, on the places of the state's array that its count says.
+use calls::DecodeAnswer;
+use calls::Way;
 use kinds::Order;
 use kinds::Shift;
 use sample_32::Sample;
 use sample_32::State;
 ghost use mathlib.Core.Path.{_≡_};
-ghost use Rattle.kinds.specs.Answers.{whenDone};
-ghost use Rattle.rule.specs.Coding.{pieceFrom, arrayAfter};
 ghost use Rattle.rule.specs.Configuration.{config};
-ghost use Rattle.rule.specs.Prediction.{prediction};
-ghost use Rattle.rule.specs.Refusals.{codingRefusal, orderSixRefusal};
+ghost use Rattle.calls.specs.declared.Way.the-variants.{General};
+ghost use Rattle.calls.specs.ByValue.{held, decodeByValue};
 ghost use Rattle.sample_32.specs.Width.{W};
 
 // What a decoding call gives back beside the piece: the state is the one for the piece that follows.
 pub struct Decoded {
-    pub answer: Answer,
+    pub said: DecodeAnswer,
     pub state: State,
 }
 
-// Decodes a piece in place, the general way.
-pub fn decode_general(
+// Decodes a piece where it lies, by the way that is asked for.
+pub fn decode_by(
+    way: Way,
     order: Order,
     shift: Shift,
     bias: i64,
@@ -27,14 +27,13 @@ pub fn decode_general(
     state: State,
     piece: &mut [Sample],
 ) -> Decoded
-    ensures answer { λ r. ⌜ r .answer ≡ codingRefusal W (config order shift bias (now (weights .entry))) (state .count .0) ⌝ }
-    ensures piece { λ r. ⌜ now (piece .exit) ≡ whenDone (r .answer) (pieceFrom W (order .0) (prediction W (config order shift bias (now (weights .entry)))) (state .samples) (now (piece .entry))) (now (piece .entry)) ⌝ }
-    ensures state { λ r. ⌜ (r .state .samples ≡ whenDone (r .answer) (arrayAfter W (order .0) (prediction W (config order shift bias (now (weights .entry)))) (state .samples) (now (piece .entry))) (state .samples)) × (r .state .count ≡ state .count) ⌝ }
+    ensures { λ r. ⌜ held (r .said) (r .state .samples) (r .state .count .0) (now (piece .exit)) ≡ decodeByValue way W (config order shift bias (now (weights .entry))) (state .samples) (state .count .0) (now (piece .entry)) ⌝ }
 {
     let count = state.count;
     let places = decoding::places_lent(count);
     let mut samples = state.samples;
-    let answer = general_way_32::decode_into(
+    let said = crate::decode_by(
+        way,
         order,
         shift,
         bias,
@@ -43,42 +42,12 @@ pub fn decode_general(
         piece,
     );
     Decoded {
-        answer,
+        said,
         state: State { samples, count },
     }
 }
 
-// The same, the order-6 way.
-pub fn decode_in_place_order_6(
-    order: Order,
-    shift: Shift,
-    bias: i64,
-    weights: &[i32],
-    state: State,
-    piece: &mut [Sample],
-) -> Decoded
-    ensures answer { λ r. ⌜ r .answer ≡ orderSixRefusal W (config order shift bias (now (weights .entry))) (state .count .0) ⌝ }
-    ensures piece { λ r. ⌜ now (piece .exit) ≡ whenDone (r .answer) (pieceFrom W (order .0) (prediction W (config order shift bias (now (weights .entry)))) (state .samples) (now (piece .entry))) (now (piece .entry)) ⌝ }
-    ensures state { λ r. ⌜ (r .state .samples ≡ whenDone (r .answer) (arrayAfter W (order .0) (prediction W (config order shift bias (now (weights .entry)))) (state .samples) (now (piece .entry))) (state .samples)) × (r .state .count ≡ state .count) ⌝ }
-{
-    let count = state.count;
-    let places = decoding::places_lent(count);
-    let mut samples = state.samples;
-    let answer = order_six_32::decode_order_6_into(
-        order,
-        shift,
-        bias,
-        weights,
-        &mut samples[..places],
-        piece,
-    );
-    Decoded {
-        answer,
-        state: State { samples, count },
-    }
-}
-
-// The same, by the quicker way where there is one.
+// The same by the quicker way.
 pub fn decode_in_place(
     order: Order,
     shift: Shift,
@@ -87,16 +56,15 @@ pub fn decode_in_place(
     state: State,
     piece: &mut [Sample],
 ) -> Decoded
-    ensures answer { λ r. ⌜ r .answer ≡ codingRefusal W (config order shift bias (now (weights .entry))) (state .count .0) ⌝ }
-    ensures piece { λ r. ⌜ now (piece .exit) ≡ whenDone (r .answer) (pieceFrom W (order .0) (prediction W (config order shift bias (now (weights .entry)))) (state .samples) (now (piece .entry))) (now (piece .entry)) ⌝ }
-    ensures state { λ r. ⌜ (r .state .samples ≡ whenDone (r .answer) (arrayAfter W (order .0) (prediction W (config order shift bias (now (weights .entry)))) (state .samples) (now (piece .entry))) (state .samples)) × (r .state .count ≡ state .count) ⌝ }
+    ensures { λ r. ⌜ held (r .said) (r .state .samples) (r .state .count .0) (now (piece .exit)) ≡ decodeByValue General W (config order shift bias (now (weights .entry))) (state .samples) (state .count .0) (now (piece .entry)) ⌝ }
 {
-    let count = state.count;
-    let places = decoding::places_lent(count);
-    let mut samples = state.samples;
-    let answer = crate::decode_into(order, shift, bias, weights, &mut samples[..places], piece);
-    Decoded {
-        answer,
-        state: State { samples, count },
-    }
+    decode_by(
+        decoding::quickest_way(order),
+        order,
+        shift,
+        bias,
+        weights,
+        state,
+        piece,
+    )
 }

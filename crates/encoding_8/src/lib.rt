@@ -1,8 +1,9 @@
-// Encoding samples in place.
-use kinds::Answer;
+// Encoding samples where they lie.
+use calls::EncodeAnswer;
 use kinds::Order;
 use kinds::SampleCount;
 use kinds::Shift;
+use predict_8::config::Config;
 use sample_8::Conv;
 use sample_8::Sample;
 use sample_8::WIDTH;
@@ -10,11 +11,11 @@ ghost use mathlib.Core.Path.{_≡_};
 ghost use mathlib.Core.List.{_++_};
 ghost use Prim.Native.Nat.{ℕ, _+_, _-_, _≤_, min};
 ghost use lib.ListN.{length, getD, take, drop};
-ghost use Rattle.kinds.specs.Answers.{whenDone};
+ghost use Rattle.rule.specs.Configuration.{config, held};
 ghost use Rattle.rule.specs.Prediction.{Ready, prediction};
 ghost use Rattle.rule.specs.Coding.{tabulate, residual, encodedBuffer};
-ghost use Rattle.rule.specs.Configuration.{config};
-ghost use Rattle.rule.specs.Refusals.{encodingRefusal};
+ghost use Rattle.calls.specs.Encode.{left, encode};
+ghost use Rattle.predict_8.specs.Configuration.{configOf};
 ghost use Rattle.sample_8.specs.Width.{W};
 
 // Samples to a batch. Their predictions, and up to 32 for the batch after, stand in one array.
@@ -32,13 +33,13 @@ fn predicted_ahead(left: usize, held: usize) -> usize
 }
 
 // Each sample becomes its residual.
-fn take_residuals(latents: &mut [Sample], predictions: &[Sample])
-    requires { ⌜ length (now latents) ≤ length (now predictions) ⌝ }
-    ensures { λ _. ⌜ now (latents .exit) ≡ tabulate (length (now (latents .entry))) (λ (i : ℕ). residual W (getD (now (latents .entry)) i 0) (getD (now (predictions .entry)) i 0)) ⌝ }
+fn take_residuals(samples: &mut [Sample], predictions: &[Sample])
+    requires { ⌜ length (now samples) ≤ length (now predictions) ⌝ }
+    ensures { λ _. ⌜ now (samples .exit) ≡ tabulate (length (now (samples .entry))) (λ (i : ℕ). residual W (getD (now (samples .entry)) i 0) (getD (now (predictions .entry)) i 0)) ⌝ }
 {
     let mut i = 0;
-    while i < latents.len() {
-        latents[i] = predict_8::centre::take_off(latents[i], predictions[i]);
+    while i < samples.len() {
+        samples[i] = predict_8::centre::residual_of(samples[i], predictions[i]);
         i += 1;
     }
 }
@@ -59,12 +60,12 @@ fn hold_over(predictions: &mut [Sample], count: usize)
 // Batch by batch. A batch's predictions are made before its samples become residuals, and those for the first `order` places of
 // the batch after are held over, since their windows reach back into this one. Before the first samples nothing is predicted: the
 // zeros that the array is made of stand for that.
-fn encode_batches(weights: &[Conv], bias: Conv, shift: Shift, latents: &mut [Sample])
-    requires { ⌜ (length (now weights) ≤ 32) × Ready W (shift .0) bias (now weights) ⌝ }
-    ensures { λ _. ⌜ now (latents .exit) ≡ encodedBuffer W (length (now (weights .entry))) (prediction W (shift .0) bias (now (weights .entry))) (now (latents .entry)) ⌝ }
+fn encode_batches(weights: &[Conv], bias: Conv, shift: Shift, samples: &mut [Sample])
+    requires { ⌜ Ready W (held shift bias (now weights)) ⌝ }
+    ensures { λ _. ⌜ now (samples .exit) ≡ encodedBuffer W (length (now (weights .entry))) (prediction W (held shift bias (now (weights .entry)))) (now (samples .entry)) ⌝ }
 {
     let order = weights.len();
-    let n = latents.len();
+    let n = samples.len();
     let mut predictions: [Sample; 544] = [0; 544];
     let mut start = 0;
     while start < n {
@@ -72,50 +73,54 @@ fn encode_batches(weights: &[Conv], bias: Conv, shift: Shift, latents: &mut [Sam
         let end = start + slices::least(left, BATCH);
         let ahead = order + predicted_ahead(left, order);
         predict_8::prediction::predict_into(
-            &latents[start..],
+            &samples[start..],
             weights,
             bias,
             shift,
             &mut predictions[order..ahead],
         );
-        take_residuals(&mut latents[start..end], &predictions);
+        take_residuals(&mut samples[start..end], &predictions);
         hold_over(&mut predictions, order);
         start = end;
     }
 }
 
-// Codes the whole slice: sample + MID in the first `order` places, sample - prediction + MID after them. The first `order` samples,
-// which start the decoding, go into `state`, whose length counts for test 4.
+// Codes the whole slice by a configuration whose tests have passed: sample + MID in the first `order` places, sample - prediction + MID
+// after them.
+pub fn encode_samples(config: Config, samples: &mut [Sample])
+    requires { ⌜ Ready W (configOf config) ⌝ }
+    ensures { λ _. ⌜ now (samples .exit) ≡ encodedBuffer W (config .order .0) (prediction W (configOf config)) (now (samples .entry)) ⌝ }
+{
+    let k = config.order.0;
+    let weights = config.weights;
+    encode_batches(&weights[..k], config.bias, config.shift, samples);
+}
+
+// The tests of a call, and then all of it. The first `order` samples, which start the decoding, go into `state`, whose length counts
+// for test 4.
 pub fn encode_into(
     order: Order,
     shift: Shift,
     bias: i64,
     weights: &[i32],
-    latents: &mut [Sample],
+    samples: &mut [Sample],
     state: &mut [Sample],
-) -> Answer
-    ensures { λ r. ⌜ r ≡ encodingRefusal W (config order shift bias (now (weights .entry))) (length (now (state .entry))) (length (now (latents .entry))) ⌝ }
-    ensures { λ r. ⌜ now (latents .exit) ≡ whenDone r (encodedBuffer W (order .0) (prediction W (config order shift bias (now (weights .entry)))) (now (latents .entry))) (now (latents .entry)) ⌝ }
-    ensures { λ r. ⌜ now (state .exit) ≡ whenDone r (take (order .0) (now (latents .entry))) (now (state .entry)) ⌝ }
+) -> EncodeAnswer
+    ensures { λ r. ⌜ left r (now (samples .exit)) (now (state .exit)) ≡ encode W (config order shift bias (now (weights .entry))) (now (samples .entry)) (now (state .entry)) ⌝ }
 {
-    let answer = admission::encoding_answer(
-        WIDTH,
-        order,
-        shift,
-        bias,
-        weights,
-        SampleCount(state.len()),
-        SampleCount(latents.len()),
-    );
+    let held = SampleCount(state.len());
+    let count = SampleCount(samples.len());
+    let answer = admission::encoding_answer(WIDTH, order, shift, bias, weights, held, count);
     if !kinds::is_done(answer) {
-        return answer;
+        return EncodeAnswer { answer };
     }
     let k = order.0;
-    slices_8::copy(&latents[..k], state);
-    let config = predict_8::prediction::conv(bias, weights);
-    let wide = config.weights;
-    encode_batches(&wide[..k], config.bias, shift, latents);
-    answer
+    slices_8::copy(&samples[..k], state);
+    encode_samples(
+        predict_8::config::conv(order, shift, bias, weights),
+        samples,
+    );
+    EncodeAnswer { answer }
 }
 
 pub mod by_value;

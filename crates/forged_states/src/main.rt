@@ -24,7 +24,8 @@ fn say_first_four(samples: [u16; 32]) {
 }
 
 fn say_decoded(decoded: Decoded, output: u16) {
-    let answer = decoded.answer;
+    let said = decoded.said;
+    let answer = said.answer;
     let state = decoded.state;
     let samples = state.samples;
     let count = state.count;

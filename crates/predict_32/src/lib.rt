@@ -1,4 +1,5 @@
 // A prediction from the samples before a place, and the residual that it leaves of the sample there.
 pub mod centre;
+pub mod config;
 pub mod prediction;
 pub mod settling;

@@ -24,7 +24,8 @@ fn code(shift: Shift, bias: i64, order: Order, weights: [i32; 32]) {
         &weights[..k],
         &mut samples,
     );
-    let answer = done.answer;
+    let said = done.said;
+    let answer = said.answer;
     say_number(kinds::number(answer) as u64);
     say_sample(samples[0]);
     say_sample(samples[1]);

@@ -18,7 +18,7 @@ fn encode_bytes(c: Configuration, weights: &[u8], row: &mut [u8], state: &mut [u
     let order = c.order;
     let shift = c.shift;
     let bias = c.bias;
-    match width {
+    let said = match width {
         Width::Eight => byte_coding_8::encoder::encode(order, shift, bias, weights, row, state),
         Width::Sixteen => byte_coding_16::encoder::encode(order, shift, bias, weights, row, state),
         Width::ThirtyTwo => byte_coding_32::encoder::encode(
@@ -29,7 +29,8 @@ fn encode_bytes(c: Configuration, weights: &[u8], row: &mut [u8], state: &mut [u
             row,
             state,
         ),
-    }
+    };
+    said.answer
 }
 
 fn decode_bytes(c: Configuration, weights: &[u8], state: &mut [u8], piece: &mut [u8]) -> Answer {
@@ -37,7 +38,7 @@ fn decode_bytes(c: Configuration, weights: &[u8], state: &mut [u8], piece: &mut 
     let order = c.order;
     let shift = c.shift;
     let bias = c.bias;
-    match width {
+    let said = match width {
         Width::Eight => byte_coding_8::decoder::decode(order, shift, bias, weights, state, piece),
         Width::Sixteen => byte_coding_16::decoder::decode(
             order,
@@ -55,7 +56,8 @@ fn decode_bytes(c: Configuration, weights: &[u8], state: &mut [u8], piece: &mut 
             state,
             piece,
         ),
-    }
+    };
+    said.answer
 }
 
 // How many bytes samples have.

@@ -1,12 +1,7 @@
 -- The inner function's promise, with the answer's number. Assumes nothing.
 use borrow.Author.Needs.{needs}
-use lib.IntN.{ℤ}
 use mir.Facts.{toZ-ofZ}
-use Rattle.rule.specs.Configuration.{Config}
-use Rattle.byte_coding.specs.Bytes.{ragged, codingBytes}
-use Rattle.boundary.specs.Calls.{bytesConfig, pieceBytesAfter, stateBytesAfter}
-use Rattle.boundary.proofs.Handed.{handed-on}
-use Rattle.sample_8.specs.Width.{W}
+use Rattle.calls.proofs.Leaving.{decode-numbered}
 use Rattle.boundary_8.proofs.claspotter_decode_bytes_8.Statement.{statement}
 use Rattle.boundary_8.proofs.claspotter_decode_bytes_8.Tie as tie
 
@@ -24,14 +19,9 @@ same-length-2 c = search needs
 
 returns : tie.Need-returns
 returns c =
-    let s = c .before .before .before .before .before .before .before .before .before .before .before in
-    let given : ℤ → Config = λ b. bytesConfig (s .args .order) (s .args .shift) b (s .args .weights .now) in
-    handed-on (toZ-ofZ (s .fits .bias))
-    (λ b. codingBytes W (given b) (ragged W (s .args .weights .now) (s .args .state .now) (s .args .piece .now)) (s .args .state .now))
-    (λ b r. pieceBytesAfter W (given b) r (s .args .state .now) (s .args .piece .now))
-    (λ b r. stateBytesAfter W (given b) r (s .args .state .now) (s .args .piece .now))
-    (c .number .ensures)
-    (c .before .before .before .before .before .decode .ensures)
+    let d = c .before .before .before .before .before in
+    let s = d .before .before .before .before .before .before in
+    decode-numbered (c .number .ensures) (rw (toZ-ofZ (s .fits .bias)) at (d .decode .ensures))
 
 pub claspotter-decode-bytes-8-spec : {M : Type 1} → statement M
 claspotter-decode-bytes-8-spec =

@@ -1,23 +1,23 @@
--- A refusal leaves everything; otherwise the tests have passed, and the batches code the slice. Assumes nothing.
-use mathlib.Core.Path.{_≡_, refl, sym, ap, _∙_}
-use mathlib.Core.Bool.{true, false}
+-- A refusal leaves everything; otherwise the tests have passed, and the samples are coded where they lie. Assumes nothing.
+use mathlib.Core.Path.{_≡_, sym, ap, _∙_}
+use mathlib.Core.Bool.{true}
 use Prim.Native.Nat.{_≤_}
 use native.Mathlib.Omega.{arith}
 use borrow.Author.Needs.{needs}
 use borrow.Author.Tests.{not-true, not-false}
-use lib.Dec.{lit≤}
-use lib.IntN.{ℤ}
 use lib.ListN.{length, take}
 use lib.Seq.{length-take-le}
 use mir.Facts.{toZ-ofZ}
-use mir.Val.{toZ, ofZ}
 use Rattle.kinds.specs.Answers.{isDone}
-use Rattle.rule.specs.Configuration.{config}
+use Rattle.rule.specs.Configuration.{Config, config}
+use Rattle.rule.specs.Prediction.{Ready, prediction}
+use Rattle.rule.specs.Coding.{encodedBuffer}
 use Rattle.rule.specs.Refusals.{encodingRefusal}
-use Rattle.rule.proofs.Passing as passing
-use Rattle.predict.proofs.Converting as converting
+use Rattle.rule.proofs.Passing.{encoding-passed}
+use Rattle.calls.proofs.Leaving.{encode-refused, encode-done}
 use Rattle.slices.proofs.Copying.{replaced}
-use Rattle.sample_32.specs.Width.{W, acc}
+use Rattle.sample_32.specs.Width.{W}
+use Rattle.predict_32.specs.Configuration.{configOf}
 use Rattle.encoding_32.proofs.encode_into.Statement.{statement}
 use Rattle.encoding_32.proofs.encode_into.Tie as tie
 
@@ -27,30 +27,35 @@ encoding-answer-requires c κs = search needs
 is-done-requires : tie.Need-is-done-requires
 is-done-requires c κs = search needs
 
+-- the tests' answer, of the bias itself and not of its bits
 module _ (c : tie.After-encoding-answer) where
   abbrev a : tie.Start
   a = c .before .before .before
 
-  said : c .encoding-answer .result ≡ encodingRefusal W (config (a .args .order) (a .args .shift) (a .args .bias) (a .args .weights .now)) (length (a .args .state .now)) (length (a .args .latents .now))
+  abbrev given : Config
+  given = config (a .args .order) (a .args .shift) (a .args .bias) (a .args .weights .now)
+
+  said : c .encoding-answer .result ≡ encodingRefusal W given (length (a .args .state .now)) (length (a .args .samples .now))
   said = rw (toZ-ofZ (a .fits .bias)) at (c .encoding-answer .ensures)
 
 returns : tie.Need-returns
 returns c =
-    let refused : isDone (c .before .before .encoding-answer .result) ≡ false = sym (c .before .is-done .ensures) ∙ not-true _ (c .if1 .taken) in
-    (said (c .before .before), rw refused (refl, refl))
+    let t = c .before .before in
+    encode-refused W (given t) (a t .args .samples .now) (a t .args .state .now) (said t) (sym (c .before .is-done .ensures) ∙ not-true _ (c .if1 .taken))
 
+-- all tests have passed
 module _ (c : tie.Else1) where
-  abbrev e : tie.After-encoding-answer
-  e = c .before .before
+  abbrev t : tie.After-encoding-answer
+  t = c .before .before
 
-  done : isDone (e .encoding-answer .result) ≡ true
+  done : isDone (t .encoding-answer .result) ≡ true
   done = sym (c .before .is-done .ensures) ∙ not-false _ (c .if1 .left)
 
-  passed : passing.Passed W (config (a e .args .order) (a e .args .shift) (a e .args .bias) (a e .args .weights .now)) (length (a e .args .state .now)) × (a e .args .order .0 ≤ length (a e .args .latents .now))
-  passed = passing.encoding-passed W _ _ _ (ap isDone (sym (said e)) ∙ done)
+  passed : (Ready W (given t) × (length (a t .args .state .now) ≡ a t .args .order .0)) × (a t .args .order .0 ≤ length (a t .args .samples .now))
+  passed = encoding-passed W (given t) _ _ (ap isDone (sym (said t)) ∙ done)
 
-first-long : (c : tie.Else1) → let s = a (c .before .before) in length (take (s .args .order .0) (s .args .latents .now)) ≡ s .args .order .0
-first-long c = length-take-le _ _ (passed c .1)
+  first-long : length (take (a t .args .order .0) (a t .args .samples .now)) ≡ a t .args .order .0
+  first-long = length-take-le _ _ (passed .1)
 
 -- the first k samples are lent, and the state has a place for each
 slice-reshare-prefix-copy : tie.Need-slice-reshare-prefix-copy
@@ -60,43 +65,26 @@ slice-aggregate-copy : tie.Need-slice-aggregate-copy
 slice-aggregate-copy c = sym (first-long (c .before))
 
 copy-requires : tie.Need-copy-requires
-copy-requires c κs = omega (arith, first-long (c .before .before), passed (c .before .before) .0 .held)
+copy-requires c κs = omega (arith, first-long (c .before .before), passed (c .before .before) .0 .1)
 
 conv-requires : tie.Need-conv-requires
 conv-requires c κs =
     let v = c .before .before .before .before .before in
-    let t = passed v .0 in
-    (rw (t .weights) (t .few), rw (toZ-ofZ (a (e v) .fits .bias)) (t .ready .admits))
+    rw (toZ-ofZ (a (t v) .fits .bias)) (passed v .0 .0)
 
--- the numbers at the accumulator's width are the configuration's
+-- the configuration that `conv` gives is the call's
 module _ (c : tie.After-conv) where
-  abbrev b : tie.Else1
-  b = c .before .before .before .before .before .before
+  abbrev v : tie.Else1
+  v = c .before .before .before .before .before .before
 
   abbrev s : tie.Start
-  s = a (e b)
+  s = a (t v)
 
-  weights-are : take (s .args .order .0) (c .conv .result .weights) ≡ s .args .weights .now
-  weights-are = converting.weights-are W _ _ (passed b .0) (c .conv .result .weights) (c .conv .ensures .1)
+  given-is : configOf (c .conv .result) ≡ given (t v)
+  given-is = rw (toZ-ofZ (s .fits .bias)) at (c .conv .ensures .0)
 
-  weights-long : length (c .conv .result .weights) ≡ 32
-  weights-long = converting.wide-long W _ _ (passed b .0) (c .conv .result .weights) (c .conv .ensures .1)
-
-  bias-is : toZ acc (ofZ acc (c .conv .result .bias)) ≡ s .args .bias
-  bias-is =
-      ap (λ (z : ℤ). toZ acc (ofZ acc z)) (c .conv .ensures .0 ∙ toZ-ofZ (s .fits .bias)) ∙ converting.bias-back W _ _ (passed b .0) acc (lit≤ tt)
-
-array-share-prefix-wide : tie.Need-array-share-prefix-wide
-array-share-prefix-wide c = rw (weights-long (c .before)) (passed (b (c .before)) .0 .few)
-
-slice-aggregate-encode-batches : tie.Need-slice-aggregate-encode-batches
-slice-aggregate-encode-batches c = rw (weights-are (c .before .before)) (sym (passed (b (c .before .before)) .0 .weights))
-
-encode-batches-requires : tie.Need-encode-batches-requires
-encode-batches-requires c κs =
-    let v = c .before .before .before .before in
-    let t = passed (b v) .0 in
-    rw (weights-are v, bias-is v) (rw (t .weights) (t .few), t .ready)
+encode-samples-requires : tie.Need-encode-samples-requires
+encode-samples-requires c κs = rw (given-is (c .before)) (passed (v (c .before)) .0 .0)
 
 same-length : tie.Need-same-length
 same-length c = search needs
@@ -106,15 +94,13 @@ same-length-2 c = search needs
 
 returns-2 : tie.Need-returns-2
 returns-2 c =
-    let v = c .before .before .before .before .before .before .before in
-    let t = passed (b v) .0 in
-    rw (done (b v)) (
-      said (e (b v)),
-      (
-        rw (weights-are v, bias-is v, t .weights) at (c .before .before .encode-batches .ensures),
-        v .before .before .before .copy .ensures ∙ replaced _ (s v .args .state .now) (omega (arith, first-long (b v), t .held)),
-      ),
-    )
+    let n = c .before .before .before .before in
+    let b = v n in
+    let x = s n .args .samples .now in
+    let y = s n .args .state .now in
+    encode-done W (given (t b)) x y (said (t b)) (done b)
+    (c .before .before .encode-samples .ensures ∙ ap (λ (g : Config). encodedBuffer W (g .order) (prediction W g) x) (given-is n))
+    (n .before .before .before .copy .ensures ∙ replaced (take (given (t b) .order) x) y (omega (arith, first-long b, passed b .0 .1)))
 
 pub encode-into-spec : {M : Type 1} → statement M
 encode-into-spec =
@@ -127,9 +113,7 @@ encode-into-spec =
     slice-aggregate-copy
     copy-requires
     conv-requires
-    array-share-prefix-wide
-    slice-aggregate-encode-batches
-    encode-batches-requires
+    encode-samples-requires
     same-length
     same-length-2
     returns-2)

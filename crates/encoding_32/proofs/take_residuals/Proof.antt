@@ -11,41 +11,41 @@ use Rattle.encoding_32.proofs.take_residuals.Statement.{statement}
 use Rattle.encoding_32.proofs.take_residuals.Tie as tie
 
 abbrev Inv-loop : tie.InvT-loop
-Inv-loop latents₀ predictions i₀ latents i =
-    filling.Filled (λ (j : ℕ). residual W (getD latents₀ j 0) (getD predictions j 0)) latents₀ latents i
+Inv-loop samples₀ predictions i₀ samples i =
+    filling.Filled (λ (j : ℕ). residual W (getD samples₀ j 0) (getD predictions j 0)) samples₀ samples i
 
 abbrev μ-loop : tie.MeasureT-loop
-μ-loop latents₀ predictions i₀ latents i = length latents₀ - i
+μ-loop samples₀ predictions i₀ samples i = length samples₀ - i
 
 loop-holds : tie.Need-loop-holds Inv-loop μ-loop
 loop-holds c = filling.fill-begin
 
-to-fill : (c : tie.In-loop Inv-loop μ-loop) → c .before .loop .i < length (c .before .before .before .before .args .latents .now)
+to-fill : (c : tie.In-loop Inv-loop μ-loop) → c .before .loop .i < length (c .before .before .before .before .args .samples .now)
 to-fill c = omega (arith, filling.fill-length (c .before .loop .inv))
 
 -- the place in bytes
-mul-take-off : tie.Need-mul-take-off Inv-loop μ-loop
-mul-take-off c = omega (arith, to-fill c)
+mul-residual-of : tie.Need-mul-residual-of Inv-loop μ-loop
+mul-residual-of c = omega (arith, to-fill c)
 
-slice-read-take-off : tie.Need-slice-read-take-off Inv-loop μ-loop
-slice-read-take-off c = omega arith
-
--- the place in bytes
-mul-take-off-2 : tie.Need-mul-take-off-2 Inv-loop μ-loop
-mul-take-off-2 c = omega (arith, to-fill (c .before))
-
-shared-slice-read-take-off : tie.Need-shared-slice-read-take-off Inv-loop μ-loop
-shared-slice-read-take-off c = omega (arith, to-fill (c .before .before))
-
-take-off-requires : tie.Need-take-off-requires Inv-loop μ-loop
-take-off-requires c κs = search needs
+slice-read-residual-of : tie.Need-slice-read-residual-of Inv-loop μ-loop
+slice-read-residual-of c = omega arith
 
 -- the place in bytes
-mul-latents : tie.Need-mul-latents Inv-loop μ-loop
-mul-latents c = omega (arith, to-fill (c .before .before .before))
+mul-residual-of-2 : tie.Need-mul-residual-of-2 Inv-loop μ-loop
+mul-residual-of-2 c = omega (arith, to-fill (c .before))
 
-slice-write-latents : tie.Need-slice-write-latents Inv-loop μ-loop
-slice-write-latents c = omega arith
+shared-slice-read-residual-of : tie.Need-shared-slice-read-residual-of Inv-loop μ-loop
+shared-slice-read-residual-of c = omega (arith, to-fill (c .before .before))
+
+residual-of-requires : tie.Need-residual-of-requires Inv-loop μ-loop
+residual-of-requires c κs = search needs
+
+-- the place in bytes
+mul-samples : tie.Need-mul-samples Inv-loop μ-loop
+mul-samples c = omega (arith, to-fill (c .before .before .before))
+
+slice-write-samples : tie.Need-slice-write-samples Inv-loop μ-loop
+slice-write-samples c = omega arith
 
 add-i : tie.Need-add-i Inv-loop μ-loop
 add-i c = omega (arith, to-fill (c .before .before .before))
@@ -58,7 +58,7 @@ loop-again c =
     let l = c .before .before .before .before .loop in
     let a = c .before .before .before .before .before .before .before .args in
     filling.fill-turn 0 (to-fill (c .before .before .before))
-    (c .take-off .ensures ∙ ap (λ (x : ℕ). residual W x (getD (a .predictions .now) (l .i) 0)) (filling.fill-rest (l .i) 0 (l .inv) (omega arith)))
+    (c .residual-of .ensures ∙ ap (λ (x : ℕ). residual W x (getD (a .predictions .now) (l .i) 0)) (filling.fill-rest (l .i) 0 (l .inv) (omega arith)))
     (l .inv)
 
 same-length : tie.Need-same-length Inv-loop μ-loop
@@ -74,13 +74,13 @@ take-residuals-spec =
     Inv-loop
     μ-loop
     loop-holds
-    mul-take-off
-    slice-read-take-off
-    mul-take-off-2
-    shared-slice-read-take-off
-    take-off-requires
-    mul-latents
-    slice-write-latents
+    mul-residual-of
+    slice-read-residual-of
+    mul-residual-of-2
+    shared-slice-read-residual-of
+    residual-of-requires
+    mul-samples
+    slice-write-samples
     add-i
     loop-less
     loop-again

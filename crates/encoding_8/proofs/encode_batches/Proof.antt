@@ -10,6 +10,7 @@ use lib.ListN.{length, drop, replicate}
 use Rattle.rule.proofs.Filling.{getD-zeros}
 use mir.Facts.{toZ-ofZ}
 use mir.Val.{toZ, ofZ}
+use Rattle.rule.specs.Configuration.{held}
 use Rattle.rule.specs.Prediction.{prediction}
 use Rattle.encoding.proofs.Batches as batches
 use Rattle.sample_8.specs.Width.{W, acc}
@@ -17,11 +18,11 @@ use Rattle.encoding_8.proofs.encode_batches.Statement.{statement}
 use Rattle.encoding_8.proofs.encode_batches.Tie as tie
 
 abbrev Inv-loop : tie.InvT-loop
-Inv-loop weights bias shift latents₀ order n predictions₀ start₀ latents predictions start =
-    batches.Batched W (length weights) (prediction W (shift .0) (toZ acc bias) weights) latents₀ latents predictions start
+Inv-loop weights bias shift samples₀ order n predictions₀ start₀ samples predictions start =
+    batches.Batched W (length weights) (prediction W (held shift (toZ acc bias) weights)) samples₀ samples predictions start
 
 abbrev μ-loop : tie.MeasureT-loop
-μ-loop weights bias shift latents₀ order n predictions₀ start₀ latents predictions start = length latents₀ - start
+μ-loop weights bias shift samples₀ order n predictions₀ start₀ samples predictions start = length samples₀ - start
 
 loop-holds : tie.Need-loop-holds Inv-loop μ-loop
 loop-holds c = batches.begin _ _ _ _ (replicate 544 0) refl (getD-zeros 544)
@@ -43,14 +44,14 @@ module _ (c : tie.After-predicted-ahead Inv-loop μ-loop) where
   abbrev k : ℕ
   k = length (a .args .weights .now)
 
-  left : l .loop .start < length (a .args .latents .now)
+  left : l .loop .start < length (a .args .samples .now)
   left = c .before .before .loop-test .taken
 
-  inside : l .loop .start + c .before .least .result ≤ length (l .loop .latents)
+  inside : l .loop .start + c .before .least .result ≤ length (l .loop .samples)
   inside = omega (arith, c .before .least .ensures, l .loop .inv .same, left)
 
   room : k + c .predicted-ahead .result ≤ length (l .loop .predictions)
-  room = omega (arith, c .predicted-ahead .ensures, l .loop .inv .long, a .pre .0)
+  room = omega (arith, c .predicted-ahead .ensures, l .loop .inv .long, a .pre .few)
 
 add-end : tie.Need-add-end Inv-loop μ-loop
 add-end c = omega (arith, c .least .ensures, c .before .before .before .before .good)
@@ -82,7 +83,7 @@ part-predictions-end c = omega (arith, room (c .before .before), l (c .before .b
 predict-into-requires : tie.Need-predict-into-requires Inv-loop μ-loop
 predict-into-requires c κs =
     let v = c .before .before .before in
-    (batches.few-enough (k v) (v .predicted-ahead .result) (l v .loop .start) (l v .loop .predictions) (l v .loop .latents) (omega (arith, v .predicted-ahead .ensures, l v .loop .inv .same)), rw (toZ-ofZ (a v .fits .bias)) (a v .pre .1))
+    (batches.few-enough (k v) (v .predicted-ahead .result) (l v .loop .start) (l v .loop .predictions) (l v .loop .samples) (omega (arith, v .predicted-ahead .ensures, l v .loop .inv .same)), rw (toZ-ofZ (a v .fits .bias)) (a v .pre))
 
 sub-take-residuals : tie.Need-sub-take-residuals Inv-loop μ-loop
 sub-take-residuals c = omega arith
@@ -112,7 +113,7 @@ take-residuals-requires c κs =
     let u = c .before .before .before in
     let w = v u in
     rw (held-long u)
-    (le-trans (batches.taken-le (l w .loop .start + w .before .least .result - l w .loop .start) (drop (l w .loop .start) (l w .loop .latents))) (omega (arith, w .before .least .ensures)))
+    (le-trans (batches.taken-le (l w .loop .start + w .before .least .result - l w .loop .start) (drop (l w .loop .start) (l w .loop .samples))) (omega (arith, w .before .least .ensures)))
 
 slice-aggregate-hold-over : tie.Need-slice-aggregate-hold-over Inv-loop μ-loop
 slice-aggregate-hold-over c = sym (held-long (c .before .before .before .before .before .before .before))
@@ -120,7 +121,7 @@ slice-aggregate-hold-over c = sym (held-long (c .before .before .before .before 
 hold-over-requires : tie.Need-hold-over-requires Inv-loop μ-loop
 hold-over-requires c κs =
     let u = c .before .before .before .before .before .before .before in
-    (rw (held-long u) (omega (arith, a (v u) .pre .0)), omega (arith, a (v u) .pre .0))
+    (rw (held-long u) (omega (arith, a (v u) .pre .few)), omega (arith, a (v u) .pre .few))
 
 loop-less : tie.Need-loop-less Inv-loop μ-loop
 loop-less c =
@@ -132,10 +133,10 @@ loop-again c =
     let u = c .before .before .before .before .before .before .before .before .before in
     let w = v u in
     let t = c .before .before .before .before .before .take-residuals in
-    batches.batch W (k w) (prediction W (a w .args .shift .0) (toZ acc (ofZ acc (a w .args .bias))) (a w .args .weights .now)) (a w .args .latents .now)
-    (l w .loop .latents) (l w .loop .predictions) (made u) (t .last .0) (c .before .hold-over .last .0)
+    batches.batch W (k w) (prediction W (held (a w .args .shift) (toZ acc (ofZ acc (a w .args .bias))) (a w .args .weights .now))) (a w .args .samples .now)
+    (l w .loop .samples) (l w .loop .predictions) (made u) (t .last .0) (c .before .hold-over .last .0)
     (l w .loop .start) (w .before .least .result) (w .predicted-ahead .result)
-    (l w .loop .inv) (a w .pre .0) (left w) (w .before .least .ensures) (w .predicted-ahead .ensures)
+    (l w .loop .inv) (a w .pre .few) (left w) (w .before .least .ensures) (w .predicted-ahead .ensures)
     (u .predict-into .ensures) (t .ensures) (c .before .hold-over .ensures)
 
 same-length : tie.Need-same-length Inv-loop μ-loop
@@ -144,7 +145,7 @@ same-length c = c .before .loop .inv .same
 returns : tie.Need-returns Inv-loop μ-loop
 returns c =
     let a = c .before .before .before in
-    batches.whole W (length (a .args .weights .now)) (prediction W (a .args .shift .0) (a .args .bias) (a .args .weights .now)) (a .args .latents .now)
+    batches.whole W (length (a .args .weights .now)) (prediction W (held (a .args .shift) (a .args .bias) (a .args .weights .now))) (a .args .samples .now)
     (rw (toZ-ofZ (a .fits .bias)) at (c .before .loop .inv)) (c .loop-test .left)
 
 pub encode-batches-spec : {M : Type 1} → statement M

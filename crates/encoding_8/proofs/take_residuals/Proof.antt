@@ -11,29 +11,29 @@ use Rattle.encoding_8.proofs.take_residuals.Statement.{statement}
 use Rattle.encoding_8.proofs.take_residuals.Tie as tie
 
 abbrev Inv-loop : tie.InvT-loop
-Inv-loop latents₀ predictions i₀ latents i =
-    filling.Filled (λ (j : ℕ). residual W (getD latents₀ j 0) (getD predictions j 0)) latents₀ latents i
+Inv-loop samples₀ predictions i₀ samples i =
+    filling.Filled (λ (j : ℕ). residual W (getD samples₀ j 0) (getD predictions j 0)) samples₀ samples i
 
 abbrev μ-loop : tie.MeasureT-loop
-μ-loop latents₀ predictions i₀ latents i = length latents₀ - i
+μ-loop samples₀ predictions i₀ samples i = length samples₀ - i
 
 loop-holds : tie.Need-loop-holds Inv-loop μ-loop
 loop-holds c = filling.fill-begin
 
-to-fill : (c : tie.In-loop Inv-loop μ-loop) → c .before .loop .i < length (c .before .before .before .before .args .latents .now)
+to-fill : (c : tie.In-loop Inv-loop μ-loop) → c .before .loop .i < length (c .before .before .before .before .args .samples .now)
 to-fill c = omega (arith, filling.fill-length (c .before .loop .inv))
 
-slice-read-take-off : tie.Need-slice-read-take-off Inv-loop μ-loop
-slice-read-take-off c = omega arith
+slice-read-residual-of : tie.Need-slice-read-residual-of Inv-loop μ-loop
+slice-read-residual-of c = omega arith
 
-shared-slice-read-take-off : tie.Need-shared-slice-read-take-off Inv-loop μ-loop
-shared-slice-read-take-off c = omega (arith, to-fill (c .before .before))
+shared-slice-read-residual-of : tie.Need-shared-slice-read-residual-of Inv-loop μ-loop
+shared-slice-read-residual-of c = omega (arith, to-fill (c .before .before))
 
-take-off-requires : tie.Need-take-off-requires Inv-loop μ-loop
-take-off-requires c κs = search needs
+residual-of-requires : tie.Need-residual-of-requires Inv-loop μ-loop
+residual-of-requires c κs = search needs
 
-slice-write-latents : tie.Need-slice-write-latents Inv-loop μ-loop
-slice-write-latents c = omega arith
+slice-write-samples : tie.Need-slice-write-samples Inv-loop μ-loop
+slice-write-samples c = omega arith
 
 add-i : tie.Need-add-i Inv-loop μ-loop
 add-i c = omega (arith, to-fill (c .before .before .before))
@@ -46,7 +46,7 @@ loop-again c =
     let l = c .before .before .before .before .loop in
     let a = c .before .before .before .before .before .before .before .args in
     filling.fill-turn 0 (to-fill (c .before .before .before))
-    (c .take-off .ensures ∙ ap (λ (x : ℕ). residual W x (getD (a .predictions .now) (l .i) 0)) (filling.fill-rest (l .i) 0 (l .inv) (omega arith)))
+    (c .residual-of .ensures ∙ ap (λ (x : ℕ). residual W x (getD (a .predictions .now) (l .i) 0)) (filling.fill-rest (l .i) 0 (l .inv) (omega arith)))
     (l .inv)
 
 same-length : tie.Need-same-length Inv-loop μ-loop
@@ -62,10 +62,10 @@ take-residuals-spec =
     Inv-loop
     μ-loop
     loop-holds
-    slice-read-take-off
-    shared-slice-read-take-off
-    take-off-requires
-    slice-write-latents
+    slice-read-residual-of
+    shared-slice-read-residual-of
+    residual-of-requires
+    slice-write-samples
     add-i
     loop-less
     loop-again

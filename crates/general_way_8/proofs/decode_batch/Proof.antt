@@ -1,16 +1,18 @@
--- The state is laid in the array, the latents are decoded behind it, and the last samples are the new state: `Batches`' first part.
+-- The state is laid in the array, the residuals are decoded behind it, and the last samples are the new state: `Batches`' first part.
 -- Assumes nothing.
 use mathlib.Core.Path.{_≡_, ap, _∙_}
 use mathlib.Core.List.{List, map}
 use Prim.Native.Nat.{ℕ, _+_, _≤_}
 use native.Mathlib.Omega.{arith}
 use borrow.Author.Needs.{needs}
+use lib.IntN.{ℤ}
 use lib.ListN.{length, take, drop}
 use mir.Facts.{toZ-ofZ}
+use Rattle.rule.specs.Configuration.{held}
 use Rattle.rule.specs.Coding.{toggled}
 use Rattle.predict.proofs.Toggling.{all-twice}
 use Rattle.decoding.proofs.Batches as law
-use Rattle.decoding.proofs.Residuals as residuals
+use Rattle.decoding.proofs.Residuals as steps
 use Rattle.sample_8.specs.Width.{W}
 use Rattle.general_way_8.proofs.decode_batch.Statement.{statement}
 use Rattle.general_way_8.proofs.decode_batch.Tie as tie
@@ -27,16 +29,16 @@ module _ (c : tie.After-decode-residuals-arg2) where
   start = c .before .before .before .before .before .before .before .before .before .before .before .before .before .before
 
   -- the residuals without MID
-  abbrev latents : List ℕ
-  latents = c .before .before .before .before .before .before .before .before .before .toggle-center-in-place .last .0
+  abbrev residuals : List ℕ
+  residuals = c .before .before .before .before .before .before .before .before .before .toggle-center-in-place .last .0
 
   abbrev laid : List ℕ
   laid = c .before .before .before .before .copy .last .1 .0
 
-  coded-is : map (toggled W) latents ≡ start .args .latents .now
+  coded-is : map (toggled W) residuals ≡ start .args .residuals .now
   coded-is =
       ap (map (toggled W)) (c .before .before .before .before .before .before .before .before .before .toggle-center-in-place .ensures)
-      ∙ all-twice W (start .args .latents .now) (λ i. c .before .before .before .before .before .before .before .before .before .before .before .slice-known3 .given i .fits)
+      ∙ all-twice W (start .args .residuals .now) (λ i. c .before .before .before .before .before .before .before .before .before .before .before .slice-known3 .given i .fits)
 
   known : take (length (start .args .weights .now)) laid ≡ start .args .state .now
   known = law.known (start .args .state .now) (start .args .samples .now) laid (start .pre .0 .full) (c .before .before .before .before .copy .ensures)
@@ -44,11 +46,11 @@ module _ (c : tie.After-decode-residuals-arg2) where
   laid-long : length laid ≡ length (start .args .samples .now)
   laid-long = c .before .before .before .before .copy .kept .1 .0
 
-  latents-long : length latents ≡ length (start .args .latents .now)
-  latents-long = c .before .before .before .before .before .before .before .before .before .toggle-center-in-place .kept .0
+  residuals-long : length residuals ≡ length (start .args .residuals .now)
+  residuals-long = c .before .before .before .before .before .before .before .before .before .toggle-center-in-place .kept .0
 
-  roomy : length (start .args .weights .now) + length latents ≤ length laid
-  roomy = omega (arith, start .pre .0 .full, start .pre .1, latents-long, laid-long)
+  roomy : length (start .args .weights .now) + length residuals ≤ length laid
+  roomy = omega (arith, start .pre .0 .full, start .pre .1, residuals-long, laid-long)
 
 decode-residuals-requires : tie.Need-decode-residuals-requires
 decode-residuals-requires c κs = (rw (known c, toZ-ofZ (start c .fits .bias)) (start c .pre .0), roomy c)
@@ -66,7 +68,7 @@ part-copy-end : tie.Need-part-copy-end
 part-copy-end c = search needs
 
 copy-requires-2 : tie.Need-copy-requires-2
-copy-requires-2 c κs = residuals.part-short _ _ _
+copy-requires-2 c κs = steps.part-short _ _ _
 
 same-length : tie.Need-same-length
 same-length c =
@@ -79,7 +81,7 @@ same-length-2 c = c .before .before .copy2 .kept .1 .0
 same-length-3 : tie.Need-same-length-3
 same-length-3 c =
     let n = c .before .before .before .before .before .before .before .before .before .before in
-    n .decode-residuals .kept .1 .1 .1 .1 .0 ∙ latents-long (n .before)
+    n .decode-residuals .kept .1 .1 .1 .1 .0 ∙ residuals-long (n .before)
 
 returns : tie.Need-returns
 returns c =
@@ -93,7 +95,7 @@ returns c =
     let back = c .before .before .copy2 in
     let h = law.handed-back (length (d .last .1 .1 .1 .1 .0)) (s .args .state .now) r (back .last .1 .0) (s .pre .0 .full)
     (omega (arith, roomy m, same, d .kept .1 .1 .1 .0)) (back .ensures) in
-    residuals.left (toZ-ofZ (s .fits .bias)) (known m) (coded-is m) (h ∙ ap (λ (count : ℕ). take k (drop count r)) same) (d .ensures)
+    steps.left (ap (λ (bias : ℤ). held (s .args .shift) bias (s .args .weights .now)) (toZ-ofZ (s .fits .bias))) (known m) (coded-is m) (h ∙ ap (λ (count : ℕ). take k (drop count r)) same) (d .ensures)
 
 pub decode-batch-spec : {M : Type 1} → statement M
 decode-batch-spec =

@@ -6,6 +6,7 @@ use borrow.Author.Needs.{needs}
 use lib.ListN.{length, getD}
 use mir.Val.{toZ, ofZ}
 use mir.Facts.{toZ-ofZ}
+use Rattle.rule.specs.Configuration.{held}
 use Rattle.rule.specs.Prediction.{prediction}
 use Rattle.decoding.proofs.Residuals as law
 use Rattle.sample_8.specs.Width.{W, acc}
@@ -13,16 +14,16 @@ use Rattle.general_way_8.proofs.decode_residuals.Statement.{statement}
 use Rattle.general_way_8.proofs.decode_residuals.Tie as tie
 
 abbrev Inv-loop : tie.InvT-loop
-Inv-loop weights bias shift samples₀ latents₀ order i₀ samples latents i = law.Holds W (length weights) (prediction W (shift .0) (toZ acc bias) weights) samples₀ latents₀ samples latents i
+Inv-loop weights bias shift samples₀ residuals₀ order i₀ samples residuals i = law.Holds W (length weights) (prediction W (held shift (toZ acc bias) weights)) samples₀ residuals₀ samples residuals i
 
 abbrev μ-loop : tie.MeasureT-loop
-μ-loop weights bias shift samples₀ latents₀ order i₀ samples latents i = length latents - i
+μ-loop weights bias shift samples₀ residuals₀ order i₀ samples residuals i = length residuals - i
 
 loop-holds : tie.Need-loop-holds Inv-loop μ-loop
 loop-holds c =
     let s = c .before .before in
     let a = s .args in
-    law.begun W _ _ (s .pre .0 .some) (a .samples .now) (a .latents .now) (s .pre .0 .full)
+    law.begun W _ _ (s .pre .0 .ready .some) (a .samples .now) (a .residuals .now) (s .pre .0 .full)
 
 -- in a turn
 module _ (c : tie.In-loop Inv-loop μ-loop) where
@@ -30,7 +31,7 @@ module _ (c : tie.In-loop Inv-loop μ-loop) where
   start = c .before .before .before .before
 
   inside : c .before .loop .i + length (start .args .weights .now) < length (c .before .loop .samples)
-  inside = law.inside W _ _ (start .pre .0 .some) _ _ (start .pre .0 .full) (c .before .loop .inv) (start .pre .1) (c .loop-test .taken)
+  inside = law.inside W _ _ (start .pre .0 .ready .some) _ _ (start .pre .0 .full) (c .before .loop .inv) (start .pre .1) (c .loop-test .taken)
 
 add-end : tie.Need-add-end Inv-loop μ-loop
 add-end c = search needs
@@ -49,17 +50,17 @@ predict-one-requires c κs =
     let t = c .before .before in
     (law.part-long _ _ _ (le-of-lt (inside t)), rw (toZ-ofZ (start t .fits .bias)) (start t .pre .0 .ready))
 
-slice-read-put-on : tie.Need-slice-read-put-on Inv-loop μ-loop
-slice-read-put-on c = c .before .before .before .before .loop-test .taken
+slice-read-sample-of : tie.Need-slice-read-sample-of Inv-loop μ-loop
+slice-read-sample-of c = c .before .before .before .before .loop-test .taken
 
-put-on-requires : tie.Need-put-on-requires Inv-loop μ-loop
-put-on-requires c κs = tt
+sample-of-requires : tie.Need-sample-of-requires Inv-loop μ-loop
+sample-of-requires c κs = tt
 
-slice-read-latents : tie.Need-slice-read-latents Inv-loop μ-loop
-slice-read-latents c = search needs
+slice-read-residuals : tie.Need-slice-read-residuals Inv-loop μ-loop
+slice-read-residuals c = search needs
 
-slice-write-latents : tie.Need-slice-write-latents Inv-loop μ-loop
-slice-write-latents c = c .before .before .before .before .before .before .loop-test .taken
+slice-write-residuals : tie.Need-slice-write-residuals Inv-loop μ-loop
+slice-write-residuals c = c .before .before .before .before .before .before .loop-test .taken
 
 slice-write-samples : tie.Need-slice-write-samples Inv-loop μ-loop
 slice-write-samples c = inside (c .before .before .before .before .before .before)
@@ -71,14 +72,14 @@ loop-less : tie.Need-loop-less Inv-loop μ-loop
 loop-less c =
     let t = c .before .before .before .before .before .before in
     let l = t .before .loop in
-    law.less (l .latents) (l .i) (getD (l .samples) (l .i) 0) (t .loop-test .taken)
+    law.less (l .residuals) (l .i) (getD (l .samples) (l .i) 0) (t .loop-test .taken)
 
 loop-again : tie.Need-loop-again Inv-loop μ-loop
 loop-again c =
     let t = c .before .before .before .before .before .before in
     let s = start t in
-    law.turn W _ _ (s .pre .0 .some) _ _ (s .pre .0 .full) (t .before .loop .inv) (t .loop-test .taken) (inside t) _ _
-    (c .before .before .before .predict-one .ensures) (c .before .put-on .ensures)
+    law.turn W _ _ (s .pre .0 .ready .some) _ _ (s .pre .0 .full) (t .before .loop .inv) (t .loop-test .taken) (inside t) _ _
+    (c .before .before .before .predict-one .ensures) (c .before .sample-of .ensures)
 
 same-length : tie.Need-same-length Inv-loop μ-loop
 same-length c = c .before .loop .inv .room
@@ -90,7 +91,7 @@ returns : tie.Need-returns Inv-loop μ-loop
 returns c =
     let s = c .before .before .before .before in
     let a = s .args in
-    let e = law.ended W (length (a .weights .now)) (prediction W (a .shift .0) (toZ acc (ofZ acc (a .bias))) (a .weights .now)) (s .pre .0 .some) (a .samples .now) (a .latents .now) (s .pre .0 .full)
+    let e = law.ended W (length (a .weights .now)) (prediction W (held (a .shift) (toZ acc (ofZ acc (a .bias))) (a .weights .now))) (s .pre .0 .ready .some) (a .samples .now) (a .residuals .now) (s .pre .0 .full)
     (c .before .loop .inv) (c .loop-test .left) in
     record { outputs-are = rw (toZ-ofZ (s .fits .bias)) at (e .0); next-is = rw (toZ-ofZ (s .fits .bias)) at (e .1) }
 
@@ -106,10 +107,10 @@ decode-residuals-spec =
     part-predict-one-start
     part-predict-one-end
     predict-one-requires
-    slice-read-put-on
-    put-on-requires
-    slice-read-latents
-    slice-write-latents
+    slice-read-sample-of
+    sample-of-requires
+    slice-read-residuals
+    slice-write-residuals
     slice-write-samples
     add-i
     loop-less

@@ -1,19 +1,17 @@
 -- What is loaded is the piece's entries, and what is stored their outputs' bytes: `Chunks`' first part. Assumes nothing.
-use mathlib.Core.Path.{_≡_, sym, ap, ap₂, _∙_}
+use mathlib.Core.Path.{_≡_, sym, ap, _∙_}
 use mathlib.Core.List.{List}
 use Prim.Native.Nat.{ℕ, _/_}
 use borrow.Author.Needs.{needs}
-use lib.IntN.{ℤ}
 use lib.ListN.{length, take}
-use mir.Facts.{toZ-ofZ}
 use Rattle.rule.specs.Coding.{decodedPiece, newState}
-use Rattle.rule.specs.Configuration.{Config, config}
+use Rattle.rule.specs.Configuration.{Config}
 use Rattle.rule.specs.Prediction.{prediction}
-use Rattle.rule.proofs.Passing.{coding-passed}
 use Rattle.rule.proofs.Extending as extending
 use Rattle.entries.specs.Entries.{entries, bytesOfAll}
 use Rattle.entries.proofs.Lists.{length-entries}
 use Rattle.byte_coding.proofs.Chunks as law
+use Rattle.predict_32.specs.Configuration.{configOf}
 use Rattle.sample_32.specs.Width.{W}
 use Rattle.byte_coding_32.proofs.decoder.decode_chunk.Statement.{statement}
 use Rattle.byte_coding_32.proofs.decoder.decode_chunk.Tie as tie
@@ -43,31 +41,26 @@ module _ (c : tie.After-decode-samples) where
   s = c .before .before .before .before .before .before .before .before .before .before .before
 
   abbrev out : List ℕ
-  out = c .decode-samples .last .1 .1 .1 .1 .1 .1 .0
+  out = c .decode-samples .last .1 .1 .1 .0
 
   abbrev g : Config
-  g = config (s .args .order) (s .args .shift) (s .args .bias) (s .args .weights .now)
+  g = configOf (s .args .config)
 
-  full : length (s .args .state .now) ≡ s .args .order .0
-  full = coding-passed W g (length (s .args .state .now)) (s .pre .0 .passes) .held
+  out-is : out ≡ decodedPiece W (g .order) (prediction W g) (s .args .state .now) (entries (W / 8) (s .args .piece .now))
+  out-is =
+      c .decode-samples .ensures .outputs-are
+      ∙ ap (decodedPiece W (g .order) (prediction W g) (s .args .state .now)) (front-is (c .before .before .before .before .before))
 
-  abbrev decoded : ℤ → List ℕ → List ℕ
-  decoded b = decodedPiece W (s .args .order .0) (prediction W (config (s .args .order) (s .args .shift) b (s .args .weights .now))) (s .args .state .now)
-
-  out-is : out ≡ decoded (s .args .bias) (entries (W / 8) (s .args .piece .now))
-  out-is = c .decode-samples .ensures .outputs-are ∙ ap₂ decoded (toZ-ofZ (s .fits .bias)) (front-is (c .before .before .before .before .before))
-
-  abbrev next : ℤ → List ℕ → List ℕ
-  next b = newState W (s .args .order .0) (prediction W (config (s .args .order) (s .args .shift) b (s .args .weights .now))) (s .args .state .now)
-
-  next-is : c .decode-samples .last .1 .1 .1 .1 .1 .0 ≡ next (s .args .bias) (entries (W / 8) (s .args .piece .now))
-  next-is = c .decode-samples .ensures .next-is ∙ ap₂ next (toZ-ofZ (s .fits .bias)) (front-is (c .before .before .before .before .before))
+  next-is : c .decode-samples .last .1 .1 .0 ≡ newState W (g .order) (prediction W g) (s .args .state .now) (entries (W / 8) (s .args .piece .now))
+  next-is =
+      c .decode-samples .ensures .next-is
+      ∙ ap (newState W (g .order) (prediction W g) (s .args .state .now)) (front-is (c .before .before .before .before .before))
 
   abbrev k : ℕ
   k = length (s .args .piece .now) / (W / 8)
 
   out-long : length out ≡ k
-  out-long = ap length out-is ∙ (extending.length-decoded W (s .args .order .0) (prediction W g) (s .args .state .now) (entries (W / 8) (s .args .piece .now)) full ∙ length-entries (W / 8) (s .args .piece .now))
+  out-long = ap length out-is ∙ (extending.length-decoded W (g .order) (prediction W g) (s .args .state .now) (entries (W / 8) (s .args .piece .now)) (s .pre .0 .0 .full) ∙ length-entries (W / 8) (s .args .piece .now))
 
 slice-aggregate-store : tie.Need-slice-aggregate-store
 slice-aggregate-store c =
@@ -77,7 +70,7 @@ slice-aggregate-store c =
 store-requires : tie.Need-store-requires
 store-requires c κs =
     let d = c .before .before .before .before .before .before in
-    law.stored-fits (k d) (out d) (out-long d) _ (W / 8) (s d .args .piece .now) (s d .pre .1 .0 .whole)
+    law.stored-fits (k d) (out d) (out-long d) _ (W / 8) (s d .args .piece .now) (s d .pre .1 .0 .entire)
 
 same-length : tie.Need-same-length
 same-length c = search needs
@@ -91,7 +84,7 @@ same-length-3 c = search needs
 returns : tie.Need-returns
 returns c =
     let d = c .before .before .before .before .before .before .before .before .before in
-    (law.stored (k d) (out d) (out-long d) _ (W / 8) (s d .args .piece .now) (s d .pre .1 .0 .whole) (c .before .before .store .ensures) ∙ ap (bytesOfAll (W / 8)) (out-is d), next-is d)
+    (law.stored (k d) (out d) (out-long d) _ (W / 8) (s d .args .piece .now) (s d .pre .1 .0 .entire) (c .before .before .store .ensures) ∙ ap (bytesOfAll (W / 8)) (out-is d), next-is d)
 
 pub decode-chunk-spec : {M : Type 1} → statement M
 decode-chunk-spec =

@@ -3,34 +3,25 @@ use mathlib.Core.Path.{_≡_, sym}
 use mathlib.Core.List.{List}
 use Prim.Native.Nat.{ℕ, _-_, _*_, _/_, _≤_}
 use native.Mathlib.Omega.{arith}
-use mir.Syntax.{w64}
-use mir.Val.{toZ, ofZ}
-use mir.Facts.{toZ-ofZ}
-use Rattle.rule.specs.Configuration.{config}
 use Rattle.rule.specs.Prediction.{prediction}
-use Rattle.rule.proofs.Passing.{coding-passed}
 use Rattle.byte_coding.proofs.Coded as law
+use Rattle.predict_32.specs.Configuration.{configOf}
 use Rattle.sample_32.specs.Width.{W}
 use Rattle.byte_coding_32.proofs.encoder.encode_chunks.Statement.{statement}
 use Rattle.byte_coding_32.proofs.encoder.encode_chunks.Tie as tie
 
 abbrev Inv-loop : tie.InvT-loop
-Inv-loop order shift bias weights samples₀ end₀ samples end =
-    law.Coding W (W / 8) (order .0) (prediction W (config order shift (toZ w64 bias) weights)) samples₀ samples end
+Inv-loop config samples₀ end₀ samples end =
+    law.Coding W (W / 8) (config .order .0) (prediction W (configOf config)) samples₀ samples end
 
 abbrev μ-loop : tie.MeasureT-loop
-μ-loop order shift bias weights samples₀ end₀ samples end = end
+μ-loop config samples₀ end₀ samples end = end
 
--- what holds at the start, in the terms of the laws
-module _ (s : tie.Start Inv-loop μ-loop) where
-  abbrev p : List ℕ → ℕ
-  p = prediction W (config (s .args .order) (s .args .shift) (toZ w64 (ofZ w64 (s .args .bias))) (s .args .weights .now))
-
-  few : s .args .order .0 ≤ 32
-  few = coding-passed W _ _ (s .pre .passes) .few
+abbrev p : tie.Start Inv-loop μ-loop → List ℕ → ℕ
+p s = prediction W (configOf (s .args .config))
 
 loop-holds : tie.Need-loop-holds Inv-loop μ-loop
-loop-holds c = law.begun W (W / 8) ((c .before) .args .order .0) (p (c .before)) ((c .before) .args .samples .now) (omega arith) ((c .before) .pre .whole .whole) (c .before .pre .enough)
+loop-holds c = law.begun W (W / 8) ((c .before) .args .config .order .0) (p (c .before)) ((c .before) .args .samples .now) (omega arith) ((c .before) .pre .1 .entire)
 
 sub-start : tie.Need-sub-start Inv-loop μ-loop
 sub-start c = omega arith
@@ -44,23 +35,17 @@ mul-to c = omega (arith, c .before .loop .inv .within)
 slice-relend-prefix-encode-chunk : tie.Need-slice-relend-prefix-encode-chunk Inv-loop μ-loop
 slice-relend-prefix-encode-chunk c =
     let s = c .before .before .before in
-    omega (arith, c .before .loop .inv .within, law.same W (W / 8) (s .args .order .0) (p s) (s .args .samples .now) (omega arith) (s .pre .whole .whole) (c .before .loop .inv))
+    omega (arith, c .before .loop .inv .within, law.same W (W / 8) (s .args .config .order .0) (p s) (s .args .samples .now) (omega arith) (s .pre .1 .entire) (c .before .loop .inv))
 
 slice-aggregate-encode-chunk : tie.Need-slice-aggregate-encode-chunk Inv-loop μ-loop
-slice-aggregate-encode-chunk c = sym (law.chunk-long W (W / 8) ((c .before .before .before .before) .args .order .0) (p (c .before .before .before .before)) ((c .before .before .before .before) .args .samples .now) (omega arith) ((c .before .before .before .before) .pre .whole .whole) (c .before .before .loop .inv))
+slice-aggregate-encode-chunk c = sym (law.chunk-long W (W / 8) ((c .before .before .before .before) .args .config .order .0) (p (c .before .before .before .before)) ((c .before .before .before .before) .args .samples .now) (omega arith) ((c .before .before .before .before) .pre .1 .entire) (c .before .before .loop .inv))
 
 encode-chunk-requires : tie.Need-encode-chunk-requires Inv-loop μ-loop
 encode-chunk-requires c κs =
     let s = c .before .before .before .before in
     let i = c .before .before .loop in
-    let long = law.chunk-long W (W / 8) (s .args .order .0) (p s) (s .args .samples .now) (omega arith) (s .pre .whole .whole) (i .inv) in
-    record {
-      passes = rw (toZ-ofZ (s .fits .bias)) (s .pre .passes);
-      whole = record { whole = omega (arith, long) };
-      begins = omega (arith, long);
-      short = omega (arith, long);
-      enough = omega (arith, long, i .inv .enough (omega arith));
-    }
+    let long = law.chunk-long W (W / 8) (s .args .config .order .0) (p s) (s .args .samples .now) (omega arith) (s .pre .1 .entire) (i .inv) in
+    (s .pre .0, record { entire = omega (arith, long); begins = omega (arith, long); short = omega (arith, long) })
 
 loop-less : tie.Need-loop-less Inv-loop μ-loop
 loop-less c = omega arith
@@ -68,17 +53,17 @@ loop-less c = omega arith
 loop-again : tie.Need-loop-again Inv-loop μ-loop
 loop-again c =
     let s = c .before .before .before .before .before .before .before in
-    law.turn W (W / 8) (s .args .order .0) (p s) (s .args .samples .now) (omega arith) (s .pre .whole .whole) (c .before .before .before .before .before .loop .inv)
-    ((c .before .before .before .before .before .loop .end - 1) / 512 * 512) (omega arith) (λ some. omega (arith, few s)) (c .before .before .encode-chunk .last .1 .1 .1 .1 .1 .0) (c .before .before .encode-chunk .ensures)
+    law.turn W (W / 8) (s .args .config .order .0) (p s) (s .args .samples .now) (omega arith) (s .pre .1 .entire) (c .before .before .before .before .before .loop .inv)
+    ((c .before .before .before .before .before .loop .end - 1) / 512 * 512) (omega arith) (c .before .before .encode-chunk .last .1 .1 .0) (c .before .before .encode-chunk .ensures)
 
 same-length : tie.Need-same-length Inv-loop μ-loop
-same-length c = law.same W (W / 8) ((c .before .before .before) .args .order .0) (p (c .before .before .before)) ((c .before .before .before) .args .samples .now) (omega arith) ((c .before .before .before) .pre .whole .whole) (c .before .loop .inv)
+same-length c = law.same W (W / 8) ((c .before .before .before) .args .config .order .0) (p (c .before .before .before)) ((c .before .before .before) .args .samples .now) (omega arith) ((c .before .before .before) .pre .1 .entire) (c .before .loop .inv)
 
 returns : tie.Need-returns Inv-loop μ-loop
 returns c =
     let s = c .before .before .before in
     let none : c .before .loop .end ≡ 0 = omega arith in
-    rw (toZ-ofZ (s .fits .bias)) at (law.ended W (W / 8) (s .args .order .0) (p s) (s .args .samples .now) (omega arith) (s .pre .whole .whole) (rw none at (c .before .loop .inv)))
+    (law.ended W (W / 8) (s .args .config .order .0) (p s) (s .args .samples .now) (omega arith) (s .pre .1 .entire) (rw none at (c .before .loop .inv)))
 
 pub encode-chunks-spec : {M : Type 1} → statement M
 encode-chunks-spec =

@@ -1,22 +1,16 @@
 -- What is loaded, coded and stored is what `Coded` says of one chunk. Assumes nothing.
-use mathlib.Core.Path.{_≡_, sym, ap₂, _∙_}
-use mathlib.Core.Bool.{true}
+use mathlib.Core.Path.{_≡_, sym, ap, _∙_}
 use mathlib.Core.List.{List, _++_}
 use Prim.Native.Nat.{ℕ, _-_, _*_, _/_, _≤_}
 use native.Mathlib.Omega.{arith}
 use borrow.Author.Needs.{needs}
 use borrow.Rule.Slice.PartMut.{same-len-mid}
-use lib.IntN.{ℤ}
 use lib.ListN.{length, take, drop, replicate}
-use lib.Seq.{length-take-le}
-use mir.Facts.{toZ-ofZ}
-use Rattle.kinds.specs.Answers.{isDone}
 use Rattle.rule.specs.Coding.{encodedBuffer}
-use Rattle.rule.specs.Configuration.{Config, config}
 use Rattle.rule.specs.Prediction.{prediction}
-use Rattle.rule.proofs.Passing.{coding-passed}
 use Rattle.entries.specs.Entries.{entries}
 use Rattle.byte_coding.proofs.Coded as law
+use Rattle.predict_8.specs.Configuration.{configOf}
 use Rattle.sample_8.specs.Width.{W}
 use Rattle.byte_coding_8.proofs.encoder.encode_chunk.Statement.{statement}
 use Rattle.byte_coding_8.proofs.encoder.encode_chunk.Tie as tie
@@ -29,14 +23,11 @@ module _ (c : tie.After-least) where
   abbrev start : tie.Start
   start = c .before .before
 
-  abbrev given : Config
-  given = config (start .args .order) (start .args .shift) (start .args .bias) (start .args .weights .now)
-
   abbrev k : ℕ
-  k = start .args .order .0
+  k = start .args .config .order .0
 
   abbrev p : List ℕ → ℕ
-  p = prediction W given
+  p = prediction W (configOf (start .args .config))
 
   abbrev bytes : List ℕ
   bytes = start .args .samples .now
@@ -53,21 +44,18 @@ module _ (c : tie.After-least) where
   piece : law.Piece (W / 8) k bytes from m skip (start .args .start)
   piece = record {
     some = omega arith;
-    whole = start .pre .whole .whole;
+    whole = start .pre .1 .entire;
     begins = omega (arith, c .least .ensures);
-    ends = omega (arith, start .pre .begins);
-    near = omega (arith, c .least .ensures, start .pre .begins);
+    ends = omega (arith, start .pre .1 .begins);
+    near = omega (arith, c .least .ensures, start .pre .1 .begins);
     reaches = λ h. omega (arith, c .least .ensures);
   }
 
   few : k ≤ 32
-  few = coding-passed W given k (start .pre .passes) .few
+  few = start .pre .0 .few
 
   short : m ≤ 544
-  short = omega (arith, c .least .ensures, start .pre .short, few)
-
-  enough : k ≤ m
-  enough = omega (arith, c .least .ensures, start .pre .begins, start .pre .enough)
+  short = omega (arith, c .least .ensures, start .pre .1 .short, few)
 
 sub-from : tie.Need-sub-from
 sub-from c = omega (arith, c .least .ensures)
@@ -107,81 +95,63 @@ module _ (c : tie.After-load) where
 array-borrow-prefix-room : tie.Need-array-borrow-prefix-room
 array-borrow-prefix-room c = omega (arith, c .before .load .kept .1 .0, short (n (c .before)))
 
-slice-aggregate-encode-into : tie.Need-slice-aggregate-encode-into
-slice-aggregate-encode-into c = sym (front-long (c .before .before))
+slice-aggregate-encode-samples : tie.Need-slice-aggregate-encode-samples
+slice-aggregate-encode-samples c = sym (front-long (c .before .before))
 
-array-borrow-prefix-saved : tie.Need-array-borrow-prefix-saved
-array-borrow-prefix-saved c = few (n (c .before .before))
-
-saved-long : (c : tie.After-least) → length {A = ℕ} (take (k c) (replicate 32 0)) ≡ k c
-saved-long c = length-take-le (k c) (replicate 32 0) (few c)
-
-slice-aggregate-encode-into-2 : tie.Need-slice-aggregate-encode-into-2
-slice-aggregate-encode-into-2 c = sym (saved-long (n (c .before .before .before)))
-
-encode-into-requires : tie.Need-encode-into-requires
-encode-into-requires c κs = search needs
+encode-samples-requires : tie.Need-encode-samples-requires
+encode-samples-requires c κs = start (n (c .before .before)) .pre .0
 
 -- the room once it is coded
-module _ (c : tie.After-encode-into) where
+module _ (c : tie.After-encode-samples) where
   abbrev l : tie.After-load
-  l = c .before .before .before .before
+  l = c .before .before .before
 
   abbrev a : tie.After-least
   a = n l
 
   abbrev out : List ℕ
-  out = c .encode-into .last .1 .1 .1 .1 .0
-
-  abbrev with : ℤ → Config
-  with b = config (start a .args .order) (start a .args .shift) b (start a .args .weights .now)
-
-  done : isDone (c .encode-into .result) ≡ true
-  done =
-      law.allowed-done W with (c .encode-into .ensures .0) (toZ-ofZ (start a .fits .bias)) (saved-long a) (front-long l) (start a .pre .passes) (enough a)
+  out = c .encode-samples .last .1 .0
 
   out-is : out ≡ encodedBuffer W (k a) (p a) (take (m a) (drop (from a) (entries (W / 8) (bytes a))))
-  out-is =
-      law.left-done (c .encode-into .result) out _ _ done (c .encode-into .ensures .1 .0)
-      ∙ ap₂ (λ (b : ℤ). encodedBuffer W (k a) (prediction W (with b))) (toZ-ofZ (start a .fits .bias)) (front l)
+  out-is = c .encode-samples .ensures ∙ ap (encodedBuffer W (k a) (p a)) (front l)
 
 mul-place : tie.Need-mul-place
-mul-place c = let v = a (c .before .before) in omega (arith, law.start-within (piece v), start v .good)
+mul-place c = let v = a (c .before) in omega (arith, law.start-within (piece v), start v .good)
 
 sub-store : tie.Need-sub-store
-sub-store c = piece (a (c .before .before)) .near
+sub-store c = piece (a (c .before)) .near
 
 part-store-start : tie.Need-part-store-start
-part-store-start c = piece (a (c .before .before .before)) .near
+part-store-start c = piece (a (c .before .before)) .near
 
 part-store-end : tie.Need-part-store-end
 part-store-end c =
-    let d = c .before .before .before in
+    let d = c .before .before in
     law.coded-within (piece (n (l d))) W (p (n (l d))) (out-is d) (drop (m (n (l d))) (l d .load .last .1 .0))
 
 sub-store-2 : tie.Need-sub-store-2
-sub-store-2 c = law.start-within (piece (a (c .before .before .before .before)))
+sub-store-2 c = law.start-within (piece (a (c .before .before .before)))
 
 part-store-start-2 : tie.Need-part-store-start-2
-part-store-start-2 c = law.start-within (piece (a (c .before .before .before .before)))
+part-store-start-2 c = law.start-within (piece (a (c .before .before .before)))
 
 part-store-end-2 : tie.Need-part-store-end-2
 part-store-end-2 c = search needs
 
 store-requires : tie.Need-store-requires
 store-requires c κs =
-    let d = c .before .before .before .before .before in
+    let d = c .before .before .before .before in
     law.store-fits (piece (n (l d))) (out d ++ drop (m (n (l d))) (l d .load .last .1 .0))
 
 same-length : tie.Need-same-length
 same-length c =
-    let v = a (c .before .before .before .before .before .before .before .before) in
+    let v = a (c .before .before .before .before .before .before .before) in
     let place = W / 8 * start v .args .start in
     same-len-mid place (length (bytes v) - place) (bytes v) (c .before .before .store .last .1 .0) (c .before .before .store .kept .1 .0)
 
 returns : tie.Need-returns
 returns c =
-    let d = c .before .before .before .before .before .before .before .before in
+    let d = c .before .before .before .before .before .before .before in
     law.finished (piece (n (l d))) W (p (n (l d))) (out-is d) (drop (m (n (l d))) (l d .load .last .1 .0)) (c .before .before .store .last .1 .0) (c .before .before .store .ensures)
 
 pub encode-chunk-spec : {M : Type 1} → statement M
@@ -198,10 +168,8 @@ encode-chunk-spec =
     slice-aggregate-load
     load-requires
     array-borrow-prefix-room
-    slice-aggregate-encode-into
-    array-borrow-prefix-saved
-    slice-aggregate-encode-into-2
-    encode-into-requires
+    slice-aggregate-encode-samples
+    encode-samples-requires
     mul-place
     sub-store
     part-store-start

@@ -16,10 +16,10 @@ use Rattle.predict_32.proofs.prediction.predict_one.Statement.{statemen
 use Rattle.predict_32.proofs.prediction.predict_one.Tie as tie
 
 abbrev Inv-loop : tie.InvT-loop
-Inv-loop latents weights bias shift s₀ i₀ s i = summing.Summed weights latents (toZ acc bias) (toZ acc s) i
+Inv-loop samples weights bias shift s₀ i₀ s i = summing.Summed weights samples (toZ acc bias) (toZ acc s) i
 
 abbrev μ-loop : tie.MeasureT-loop
-μ-loop latents weights bias shift s₀ i₀ s i = length weights - i
+μ-loop samples weights bias shift s₀ i₀ s i = length weights - i
 
 loop-holds : tie.Need-loop-holds Inv-loop μ-loop
 loop-holds c = summing.begin _ _ _
@@ -48,29 +48,29 @@ module _ (c : tie.After-shared-slice-known2 Inv-loop μ-loop) where
   bias-is : toZ acc (ofZ acc (a .args .bias)) ≡ a .args .bias
   bias-is = toZ-ofZ (a .fits .bias)
 
-  samples : sums.Samples W (a .args .latents .now)
+  samples : sums.Samples W (a .args .samples .now)
   samples = record { below = λ i. c .shared-slice-known2 .given i .fits }
 
-  summed : summing.Summed (a .args .weights .now) (a .args .latents .now) (a .args .bias) (toZ acc (l .loop .s)) (l .loop .i)
+  summed : summing.Summed (a .args .weights .now) (a .args .samples .now) (a .args .bias) (toZ acc (l .loop .s)) (l .loop .i)
   summed = rw bias-is at (l .loop .inv)
 
   abbrev ok : admitted W (a .args .bias) (a .args .weights .now) ≡ true
   ok = a .pre .1 .admits
 
-  in-window : l .loop .i < length (a .args .latents .now)
+  in-window : l .loop .i < length (a .args .samples .now)
   in-window = omega arith
 
   weight-is : toZ acc (ofZ acc (getD (a .args .weights .now) (l .loop .i) (pos 0))) ≡ getD (a .args .weights .now) (l .loop .i) (pos 0)
   weight-is = toZ-ofZ (sums.fits {W = W} (lit≤ tt) (sums.weight-inside W (a .args .bias) (a .args .weights .now) ok (lit< tt) (l .loop .i)))
 
-  term-fits : SFits acc (getD (a .args .weights .now) (l .loop .i) (pos 0) *ℤ pos (getD (a .args .latents .now) (l .loop .i) 0))
+  term-fits : SFits acc (getD (a .args .weights .now) (l .loop .i) (pos 0) *ℤ pos (getD (a .args .samples .now) (l .loop .i) 0))
   term-fits = sums.fits {W = W} (lit≤ tt) (summing.term-inside ok samples (c .before .before .loop-test .taken) in-window summed)
 
 product-requires : tie.Need-product-requires Inv-loop μ-loop
 product-requires c κs = rw (weight-is c) (term-fits c)
 
 module _ (c : tie.After-product Inv-loop μ-loop) where
-  term-is : toZ acc (ofZ acc (c .product .result)) ≡ getD (a (c .before) .args .weights .now) (l (c .before) .loop .i) (pos 0) *ℤ pos (getD (a (c .before) .args .latents .now) (l (c .before) .loop .i) 0)
+  term-is : toZ acc (ofZ acc (c .product .result)) ≡ getD (a (c .before) .args .weights .now) (l (c .before) .loop .i) (pos 0) *ℤ pos (getD (a (c .before) .args .samples .now) (l (c .before) .loop .i) 0)
   term-is =
       let e = rw (weight-is (c .before)) at (c .product .ensures) in
       ap (λ (z : ℤ). toZ acc (ofZ acc z)) e ∙ toZ-ofZ (term-fits (c .before))
@@ -99,7 +99,7 @@ module _ (c : tie.After-loop Inv-loop μ-loop) where
   abbrev from : tie.Start Inv-loop μ-loop
   from = c .before .before .before
 
-  sum-is : toZ acc (c .before .loop .s) ≡ sumAt (from .args .bias) (from .args .weights .now) (from .args .latents .now)
+  sum-is : toZ acc (c .before .loop .s) ≡ sumAt (from .args .bias) (from .args .weights .now) (from .args .samples .now)
   sum-is = summing.done (rw (toZ-ofZ (from .fits .bias)) at (c .before .loop .inv)) (c .loop-test .left)
 
   whole-fits : SFits wide (toZ acc (c .before .loop .s))

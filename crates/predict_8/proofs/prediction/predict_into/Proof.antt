@@ -7,6 +7,8 @@ use lib.IntN.{ℤ}
 use lib.ListN.{length}
 use mir.Facts.{toZ-ofZ}
 use mir.Val.{toZ, ofZ}
+use Rattle.kinds.specs.declared.Shift.{Shift}
+use Rattle.rule.specs.Configuration.{held}
 use Rattle.rule.specs.Prediction.{prediction}
 use Rattle.rule.specs.Coding.{window}
 use Rattle.rule.proofs.Filling as filling
@@ -16,15 +18,15 @@ use Rattle.predict_8.proofs.prediction.predict_into.Statement.{statemen
 use Rattle.predict_8.proofs.prediction.predict_into.Tie as tie
 
 -- what is predicted for place i
-abbrev predicted : List ℕ → List ℤ → ℤ → ℕ → ℕ → ℕ
-predicted latents weights bias q i = prediction W q bias weights (window (length weights) (i + length weights) latents)
+abbrev predicted : List ℕ → List ℤ → ℤ → Shift → ℕ → ℕ
+predicted samples weights bias q i = prediction W (held q bias weights) (window (length weights) (i + length weights) samples)
 
 abbrev Inv-loop : tie.InvT-loop
-Inv-loop latents weights bias shift preds₀ order i₀ preds i =
-    filling.Filled (predicted latents weights (toZ acc bias) (shift .0)) preds₀ preds i
+Inv-loop samples weights bias shift preds₀ order i₀ preds i =
+    filling.Filled (predicted samples weights (toZ acc bias) shift) preds₀ preds i
 
 abbrev μ-loop : tie.MeasureT-loop
-μ-loop latents weights bias shift preds₀ order i₀ preds i = length preds₀ - i
+μ-loop samples weights bias shift preds₀ order i₀ preds i = length preds₀ - i
 
 loop-holds : tie.Need-loop-holds Inv-loop μ-loop
 loop-holds c = filling.fill-begin
@@ -39,7 +41,7 @@ module _ (c : tie.In-loop Inv-loop μ-loop) where
   to-fill : i < length (a .args .preds .now)
   to-fill = omega (arith, filling.fill-length (c .before .loop .inv))
 
-  window-in : i + length (a .args .weights .now) ≤ length (a .args .latents .now)
+  window-in : i + length (a .args .weights .now) ≤ length (a .args .samples .now)
   window-in = omega (arith, to-fill, a .pre .0)
 
 add-end : tie.Need-add-end Inv-loop μ-loop
@@ -57,7 +59,7 @@ part-predict-one-end c = window-in c
 predict-one-requires : tie.Need-predict-one-requires Inv-loop μ-loop
 predict-one-requires c κs =
     let e = a (c .before) in (
-      ap length (window-part (length (e .args .weights .now)) (i (c .before)) (e .args .latents .now)) ∙ window-length (length (e .args .weights .now)) (i (c .before)) (e .args .latents .now) (window-in (c .before)),
+      ap length (window-part (length (e .args .weights .now)) (i (c .before)) (e .args .samples .now)) ∙ window-length (length (e .args .weights .now)) (i (c .before)) (e .args .samples .now) (window-in (c .before)),
       rw (toZ-ofZ (e .fits .bias)) (e .pre .1),
     )
 
@@ -75,7 +77,7 @@ loop-again c =
     let e = a (c .before .before) in
     let n = i (c .before .before) in
     filling.fill-turn 0 (to-fill (c .before .before))
-    (c .predict-one .ensures ∙ ap (λ (l : List ℕ). prediction W (e .args .shift .0) (toZ acc (ofZ acc (e .args .bias))) (e .args .weights .now) l) (window-part (length (e .args .weights .now)) n (e .args .latents .now)))
+    (c .predict-one .ensures ∙ ap (λ (l : List ℕ). prediction W (held (e .args .shift) (toZ acc (ofZ acc (e .args .bias))) (e .args .weights .now)) l) (window-part (length (e .args .weights .now)) n (e .args .samples .now)))
     (c .before .before .before .loop .inv)
 
 same-length : tie.Need-same-length Inv-loop μ-loop
