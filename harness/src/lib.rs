@@ -2,7 +2,6 @@
 
 pub mod archive;
 pub mod bench;
-pub mod boundary;
 pub mod coding;
 pub mod compare;
 pub mod differences;

@@ -2,25 +2,10 @@
 
 use crate::records::{Fields, Reading, Writing};
 use crate::width::Sample;
+use claspotter::raw;
 
-/// A configuration as a call gives it. At the byte boundary the weights are bytes.
-#[derive(Clone, Copy, Debug)]
-pub struct Config<'a, Weight = i32> {
-    pub order: usize,
-    pub shift: u32,
-    pub bias: i64,
-    pub weights: &'a [Weight],
-}
-
-/// The ways to decode.
-#[derive(Clone, Copy, Debug, PartialEq, Eq)]
-pub enum Way {
-    /// What a user calls: the quick way at order 6, the general one elsewhere.
-    Chosen,
-    General,
-    /// Refuses every order but 6.
-    OrderSix,
-}
+/// A configuration as a call gives it, and the ways to decode. At the byte boundary the weights are bytes.
+pub use claspotter::{Config, Way};
 
 /// The numbers that quantising gives beside the lent weights.
 #[derive(Clone, Copy, Debug, PartialEq, Eq)]
@@ -29,6 +14,17 @@ pub struct Quantised {
     pub shift: u32,
     pub bias: i64,
 }
+
+/// What the numbers of a record hold before a call.
+const HELD: raw::Numbers = raw::Numbers {
+    variant: u32::MAX,
+    order: usize::MAX,
+    window_n_log: u32::MAX,
+    state_n_log: u32::MAX,
+    secondary_uses_delta: u32::MAX,
+    quantization: u32::MAX,
+    bias: i64::MAX,
+};
 
 pub trait Port {
     fn encode<T: Sample>(&self, c: &Config, samples: &mut [T], state: &mut [T]) -> u32 {
@@ -56,12 +52,38 @@ pub trait Port {
         Quantised { answer, shift, bias }
     }
 
+    /// The record's weights fill the lent slice; those of the fields are 0.
     fn read_record(&self, bytes: &[u8], variants: bool, weights: &mut [i32]) -> Reading {
-        crate::boundary::read_record(bytes, variants, weights)
+        let (mut n, mut bits) = (HELD, usize::MAX);
+        let answer = raw::read_record(bytes, variants, &mut n, weights, &mut bits);
+        assert!(n.secondary_uses_delta <= 1, "a flag of {}", n.secondary_uses_delta);
+        let fields = Fields {
+            variant: n.variant,
+            order: n.order,
+            window: n.window_n_log,
+            state: n.state_n_log,
+            flag: n.secondary_uses_delta == 1,
+            shift: n.quantization,
+            bias: n.bias,
+            ..Fields::default()
+        };
+        Reading { answer, fields, bits }
     }
 
+    /// Writes with the lent weights; those of the fields are not looked at.
     fn write_record(&self, fields: &Fields, weights: &[i32], bytes: &mut [u8]) -> Writing {
-        crate::boundary::write_record(fields, weights, bytes)
+        let numbers = raw::Numbers {
+            variant: fields.variant,
+            order: fields.order,
+            window_n_log: fields.window,
+            state_n_log: fields.state,
+            secondary_uses_delta: u32::from(fields.flag),
+            quantization: fields.shift,
+            bias: fields.bias,
+        };
+        let mut bits = usize::MAX;
+        let answer = raw::write_record(&numbers, weights, bytes, &mut bits);
+        Writing { answer, bits }
     }
 }
 
