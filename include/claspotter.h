@@ -235,8 +235,8 @@ CLASPOTTER_ANSWER uint32_t claspotter_decode_order_6_bytes_32(size_t order, uint
  * the order; with 6 where a step's "must" fails.
  *
  * The floating-point environment is to be the usual one: rounding to nearest, subnormal numbers not flushed to 0, exceptions masked. In
- * another one the call may write numbers other than these steps give, and nothing is promised of them; where exceptions are not masked it
- * may trap. Functions other than these three use no floats, and no environment changes what they do. */
+ * another one the call may write numbers other than these steps give, and nothing is promised of them, not even that they are admitted;
+ * where exceptions are not masked it may trap. Functions other than these three use no floats, and no environment changes what they do. */
 CLASPOTTER_ANSWER uint32_t claspotter_quantise_8(size_t order, const double *fitted, size_t fitted_len, double centred_bias,
     uint8_t centre, int32_t *weights, size_t weights_len, uint32_t *shift, int64_t *bias);
 CLASPOTTER_ANSWER uint32_t claspotter_quantise_16(size_t order, const double *fitted, size_t fitted_len, double centred_bias,

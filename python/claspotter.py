@@ -348,7 +348,7 @@ def encode_in_place(config: Config, samples: Buffer, state: Optional[Buffer] = N
         with memoryview(samples) as view:
             itemsize = 1 if width is not None else _entry_bytes(view, "samples")
         # An order above 32 is refused whatever the state.
-        state = _new(min(config.order, MAX_ORDER + 1), itemsize, width)
+        state = _new(min(config.order, MAX_ORDER), itemsize, width)
     _check(_answer("encode_", config, width, ("samples", samples), ("state", state)))
     return state
 

@@ -150,6 +150,19 @@ class Coding(unittest.TestCase):
         whole = memoryview(kinds["part of an array"].obj)
         self.assertEqual((whole[0], whole[6]), (7, 7))
 
+    def test_entries_at_an_odd_address_go_over_bytes(self):
+        called = []
+        function = claspotter._function
+        claspotter._function = lambda name: called.append(name) or function(name)
+        try:
+            lent = memoryview(bytearray(9))
+            for part in (lent[0:8].cast("H"), lent[1:9].cast("H"), lent[1:9].cast("I"), lent[1:9]):
+                claspotter.encode_in_place(Config((1,)), part)
+        finally:
+            claspotter._function = function
+        # A bytearray's own memory is aligned.
+        self.assertEqual(called, ["encode_u16", "encode_bytes_16", "encode_bytes_32", "encode_u8"])
+
     def test_what_is_copied_stays(self):
         config, samples = Config((1,)), array("H", [1, 2, 3])
         state, residuals = claspotter.encode(config, samples)
@@ -161,7 +174,7 @@ class Coding(unittest.TestCase):
         self.assertEqual(claspotter.encode(config, b"\1\0\2\0", width=16), (bytearray(b"\1\0"), bytearray(b"\1\x80")))
 
     def test_nothing_is_held_after_a_call(self):
-        samples = array("H", [1, 2, 3])
+        samples, signed = array("H", [1, 2, 3]), array("h", [1])
         caught = []
         for call in (
             lambda: claspotter.encode_in_place(Config((1,)), samples),
@@ -169,13 +182,15 @@ class Coding(unittest.TestCase):
             lambda: claspotter.decode_in_place(Config((1,)), samples, array("B", [1])),
             lambda: claspotter.decode_in_place(Config((1,)), samples, b"1"),
             lambda: claspotter.decode_in_place(Config((1,)), samples, samples),
+            lambda: claspotter.decode_in_place(Config((1,)), signed, samples),
         ):
             try:
                 call()
             except (Refused, TypeError, ValueError) as error:
                 caught.append(error)
             samples.append(4)  # a BufferError where the array is still lent
-        self.assertEqual(len(caught), 4)
+            signed.append(4)
+        self.assertEqual(len(caught), 5)
 
 
 class Refusals(unittest.TestCase):
@@ -249,8 +264,8 @@ class CannotBeCalled(unittest.TestCase):
             claspotter.encode(config, buffer)
 
     def test_entries_of_a_wrong_type(self):
-        for letter in "bhilqQfd":
-            if letter == "l" and array("l").itemsize == 4:
+        for letter in "bhilqLQfd":
+            if letter == "L" and array("L").itemsize == 4:
                 continue
             with self.subTest(letter), self.assertRaisesRegex(TypeError, "unsigned, of 8, 16 or 32 bits"):
                 claspotter.encode_in_place(Config((1,)), array(letter, [1, 2]))

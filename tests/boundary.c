@@ -40,27 +40,28 @@ static void texts(void) {
     SAME(strcmp(claspotter_refusal_text(CLASPOTTER_NO_ROOM + 1), claspotter_refusal_text(UINT32_MAX)), 0);
 }
 
-/* For one width: the table's first row, every way to decode, the same over bytes, and null wherever a length is 0. */
+/* For one width: a prediction by floor((4x + 3) / 4), which is the last sample; every way to decode; the same over bytes; a bias that only
+ * 64 bits hold; and null wherever a length is 0. */
 #define CODING(W, TYPE) \
     static void coding_##W(void) { \
-        const int32_t weights[1] = {1}, none[6] = {0, 0, 0, 0, 0, 0}; \
-        const uint8_t weight_bytes[4] = {1, 0, 0, 0}, none_bytes[24] = {0}; \
+        const int32_t weights[1] = {4}, none[6] = {0, 0, 0, 0, 0, 0}; \
+        const uint8_t weight_bytes[4] = {4, 0, 0, 0}, none_bytes[24] = {0}; \
         const TYPE mid = (TYPE)((uint64_t)1 << (W - 1)); \
         TYPE samples[3] = {10, 12, 11}, state[1] = {0}, six[6] = {1, 2, 3, 4, 5, 6}, piece[1]; \
         uint8_t bytes[3 * W / 8], state_bytes[W / 8], six_bytes[6 * W / 8]; \
         size_t i; \
-        SAME(claspotter_encode_u##W(1, 0, 0, weights, 1, samples, 3, state, 1), CLASPOTTER_DONE); \
+        SAME(claspotter_encode_u##W(1, 2, 3, weights, 1, samples, 3, state, 1), CLASPOTTER_DONE); \
         SAME(state[0], 10); \
         SAME(samples[0], (TYPE)(mid + 10)); \
         SAME(samples[1], (TYPE)(mid + 2)); \
         SAME(samples[2], (TYPE)(mid - 1)); \
-        SAME(claspotter_decode_u##W(1, 0, 0, weights, 1, state, 1, samples + 1, 1), CLASPOTTER_DONE); \
-        SAME(claspotter_decode_general_u##W(1, 0, 0, weights, 1, state, 1, samples + 2, 1), CLASPOTTER_DONE); \
+        SAME(claspotter_decode_u##W(1, 2, 3, weights, 1, state, 1, samples + 1, 1), CLASPOTTER_DONE); \
+        SAME(claspotter_decode_general_u##W(1, 2, 3, weights, 1, state, 1, samples + 2, 1), CLASPOTTER_DONE); \
         SAME(samples[1], 10); \
         SAME(samples[2], 12); \
         SAME(state[0], 11); \
         piece[0] = mid; \
-        SAME(claspotter_decode_order_6_u##W(6, 0, 7, none, 6, six, 6, piece, 1), CLASPOTTER_DONE); \
+        SAME(claspotter_decode_order_6_u##W(6, 3, 61, none, 6, six, 6, piece, 1), CLASPOTTER_DONE); \
         SAME(piece[0], 1); \
         SAME(six[5], 7); \
         memset(bytes, 0, sizeof bytes); \
@@ -68,39 +69,47 @@ static void texts(void) {
             bytes[i * (W / 8)] = (uint8_t)(10 + i); \
         } \
         memset(state_bytes, 0, sizeof state_bytes); \
-        SAME(claspotter_encode_bytes_##W(1, 0, 0, weight_bytes, 4, bytes, sizeof bytes, state_bytes, W / 8), CLASPOTTER_DONE); \
+        SAME(claspotter_encode_bytes_##W(1, 2, 3, weight_bytes, 4, bytes, sizeof bytes, state_bytes, W / 8), CLASPOTTER_DONE); \
         SAME(state_bytes[0], 10); \
         SAME(bytes[2 * W / 8 - 1], W == 8 ? 129 : 128); \
-        SAME(claspotter_decode_bytes_##W(1, 0, 0, weight_bytes, 4, state_bytes, W / 8, bytes + W / 8, W / 8), CLASPOTTER_DONE); \
-        SAME(claspotter_decode_general_bytes_##W(1, 0, 0, weight_bytes, 4, state_bytes, W / 8, bytes + 2 * W / 8, W / 8), CLASPOTTER_DONE); \
+        SAME(claspotter_decode_bytes_##W(1, 2, 3, weight_bytes, 4, state_bytes, W / 8, bytes + W / 8, W / 8), CLASPOTTER_DONE); \
+        SAME(claspotter_decode_general_bytes_##W(1, 2, 3, weight_bytes, 4, state_bytes, W / 8, bytes + 2 * W / 8, W / 8), CLASPOTTER_DONE); \
         SAME(bytes[W / 8], 10); \
         SAME(bytes[2 * W / 8], 11); \
         SAME(state_bytes[0], 12); \
         memset(six_bytes, 0, sizeof six_bytes); \
         memset(bytes, 0, sizeof bytes); \
         bytes[W / 8 - 1] = 128; \
-        SAME(claspotter_decode_order_6_bytes_##W(6, 0, 7, none_bytes, 24, six_bytes, 6 * W / 8, bytes, W / 8), CLASPOTTER_DONE); \
+        SAME(claspotter_decode_order_6_bytes_##W(6, 3, 61, none_bytes, 24, six_bytes, 6 * W / 8, bytes, W / 8), CLASPOTTER_DONE); \
         SAME(six_bytes[5 * W / 8], 7); \
+        SAME(claspotter_encode_u##W(1, 2, INT64_MIN, weights, 1, samples, 3, state, 1), CLASPOTTER_OVERFLOWS); \
+        SAME(claspotter_decode_u##W(1, 2, INT64_MIN, weights, 1, state, 1, samples, 3), CLASPOTTER_OVERFLOWS); \
+        SAME(claspotter_decode_general_u##W(1, 2, INT64_MIN, weights, 1, state, 1, samples, 3), CLASPOTTER_OVERFLOWS); \
+        SAME(claspotter_decode_order_6_u##W(6, 3, INT64_MIN, none, 6, six, 6, samples, 3), CLASPOTTER_OVERFLOWS); \
+        SAME(claspotter_encode_bytes_##W(1, 2, INT64_MIN, weight_bytes, 4, bytes, W / 8, state_bytes, W / 8), CLASPOTTER_OVERFLOWS); \
+        SAME(claspotter_decode_bytes_##W(1, 2, INT64_MIN, weight_bytes, 4, state_bytes, W / 8, bytes, W / 8), CLASPOTTER_OVERFLOWS); \
+        SAME(claspotter_decode_general_bytes_##W(1, 2, INT64_MIN, weight_bytes, 4, state_bytes, W / 8, bytes, W / 8), CLASPOTTER_OVERFLOWS); \
+        SAME(claspotter_decode_order_6_bytes_##W(6, 3, INT64_MIN, none_bytes, 24, six_bytes, 6 * W / 8, bytes, W / 8), CLASPOTTER_OVERFLOWS); \
         /* null, with length 0 */ \
         SAME(claspotter_admits_##W(0, NULL, 0), CLASPOTTER_DONE); \
         SAME(claspotter_admits_##W(INT64_MIN, NULL, 0), CLASPOTTER_OVERFLOWS); \
         SAME(claspotter_encode_u##W(0, 0, 0, NULL, 0, NULL, 0, NULL, 0), CLASPOTTER_BAD_ORDER); \
         SAME(claspotter_encode_u##W(1, 0, 0, NULL, 0, samples, 3, state, 1), CLASPOTTER_BAD_LENGTH); \
-        SAME(claspotter_encode_u##W(1, 0, 0, weights, 1, samples, 3, NULL, 0), CLASPOTTER_BAD_LENGTH); \
-        SAME(claspotter_encode_u##W(1, 0, 0, weights, 1, NULL, 0, state, 1), CLASPOTTER_TOO_FEW_SAMPLES); \
-        SAME(claspotter_decode_u##W(1, 0, 0, weights, 1, state, 1, NULL, 0), CLASPOTTER_DONE); \
+        SAME(claspotter_encode_u##W(1, 2, 3, weights, 1, samples, 3, NULL, 0), CLASPOTTER_BAD_LENGTH); \
+        SAME(claspotter_encode_u##W(1, 2, 3, weights, 1, NULL, 0, state, 1), CLASPOTTER_TOO_FEW_SAMPLES); \
+        SAME(claspotter_decode_u##W(1, 2, 3, weights, 1, state, 1, NULL, 0), CLASPOTTER_DONE); \
         SAME(claspotter_decode_u##W(6, 0, 0, none, 6, six, 6, NULL, 0), CLASPOTTER_DONE); \
         SAME(claspotter_decode_u##W(1, 0, 0, NULL, 0, NULL, 0, NULL, 0), CLASPOTTER_BAD_LENGTH); \
-        SAME(claspotter_decode_general_u##W(1, 0, 0, weights, 1, state, 1, NULL, 0), CLASPOTTER_DONE); \
-        SAME(claspotter_decode_general_u##W(1, 0, 0, weights, 1, NULL, 0, NULL, 0), CLASPOTTER_BAD_LENGTH); \
+        SAME(claspotter_decode_general_u##W(1, 2, 3, weights, 1, state, 1, NULL, 0), CLASPOTTER_DONE); \
+        SAME(claspotter_decode_general_u##W(1, 2, 3, weights, 1, NULL, 0, NULL, 0), CLASPOTTER_BAD_LENGTH); \
         SAME(claspotter_decode_order_6_u##W(6, 0, 0, none, 6, six, 6, NULL, 0), CLASPOTTER_DONE); \
         SAME(claspotter_decode_order_6_u##W(6, 0, 0, NULL, 0, NULL, 0, NULL, 0), CLASPOTTER_BAD_LENGTH); \
         SAME(claspotter_encode_bytes_##W(1, 0, 0, NULL, 0, NULL, 0, NULL, 0), CLASPOTTER_BAD_LENGTH); \
-        SAME(claspotter_encode_bytes_##W(1, 0, 0, weight_bytes, 4, NULL, 0, state_bytes, W / 8), CLASPOTTER_TOO_FEW_SAMPLES); \
-        SAME(claspotter_decode_bytes_##W(1, 0, 0, weight_bytes, 4, state_bytes, W / 8, NULL, 0), CLASPOTTER_DONE); \
+        SAME(claspotter_encode_bytes_##W(1, 2, 3, weight_bytes, 4, NULL, 0, state_bytes, W / 8), CLASPOTTER_TOO_FEW_SAMPLES); \
+        SAME(claspotter_decode_bytes_##W(1, 2, 3, weight_bytes, 4, state_bytes, W / 8, NULL, 0), CLASPOTTER_DONE); \
         SAME(claspotter_decode_bytes_##W(6, 0, 0, none_bytes, 24, six_bytes, 6 * W / 8, NULL, 0), CLASPOTTER_DONE); \
         SAME(claspotter_decode_bytes_##W(1, 0, 0, NULL, 0, NULL, 0, NULL, 0), CLASPOTTER_BAD_LENGTH); \
-        SAME(claspotter_decode_general_bytes_##W(1, 0, 0, weight_bytes, 4, state_bytes, W / 8, NULL, 0), CLASPOTTER_DONE); \
+        SAME(claspotter_decode_general_bytes_##W(1, 2, 3, weight_bytes, 4, state_bytes, W / 8, NULL, 0), CLASPOTTER_DONE); \
         SAME(claspotter_decode_general_bytes_##W(1, 0, 0, NULL, 0, NULL, 0, NULL, 0), CLASPOTTER_BAD_LENGTH); \
         SAME(claspotter_decode_order_6_bytes_##W(6, 0, 0, none_bytes, 24, six_bytes, 6 * W / 8, NULL, 0), CLASPOTTER_DONE); \
         SAME(claspotter_decode_order_6_bytes_##W(6, 0, 0, NULL, 0, NULL, 0, NULL, 0), CLASPOTTER_BAD_LENGTH); \
