@@ -25,8 +25,8 @@
  *
  * HOW TO CALL
  *
- * Every function is proved to meet the promise that stands with it, for any numbers and any lengths. What no proof can see is how it is
- * called, which is up to the caller:
+ * Every function of the library is proved to meet the promise that stands with it, for any numbers and any lengths. What no proof can see
+ * is how it is called, which is up to the caller:
  *
  *   - A slice is a pointer and then a length, in entries. The pointer is aligned for its entries, and the length is the number of entries
  *     that may be read, or written where the pointer is not const. Where the length is 0 any pointer will do, a null pointer too.
@@ -34,9 +34,9 @@
  *   - Slices and numbers that are lent to one call do not overlap.
  *   - Nothing is kept between calls and nothing is allocated. Calls on different slices may run at the same time, in any threads.
  *
- * Every function but claspotter_version answers an enum claspotter_refusal as a uint32_t: 0 when it did its work. Any other answer is a
- * refusal, and then every slice is as it was and every number that the call writes is 0. Where several tests fail, the first counts:
- * coding tests in the order 1, 2, 4, 3, 5; quantising 1, 4, 6; the record's tests are given with its functions.
+ * Every function but claspotter_version answers a number of enum claspotter_refusal: 0 when it did its work. Any other answer is a refusal,
+ * and then every slice is as it was and every number that the call writes is 0. Where several tests fail, the first counts: coding tests in
+ * the order 1, 2, 4, 3, 5; quantising 1, 4, 6; the record's tests are given with its functions.
  */
 #ifndef CLASPOTTER_H
 #define CLASPOTTER_H
@@ -108,7 +108,8 @@ enum claspotter_variant {
     CLASPOTTER_CONV1 = 3
 };
 
-/* A short text for an answer, for messages. It is never null and lasts as long as the program. */
+/* A short text for an answer, for messages. It is never null and lasts as long as the program. (This is the header's own; the library has
+ * numbers alone.) */
 static inline const char *claspotter_refusal_text(uint32_t answer) {
     switch (answer) {
     case CLASPOTTER_DONE:
@@ -163,7 +164,10 @@ CLASPOTTER_ANSWER uint32_t claspotter_encode_u32(size_t order, uint32_t shift, i
 /* Decoding a piece of residuals, in place. The residuals give as many new samples. In the list of the state and then the new samples, the
  * first piece_len entries replace the piece and the last `order` are the new state, ready for the piece that follows. So what comes out
  * lags by `order`. Decode the pieces of a trace in their order, from the state that encoding gave: the joined pieces and then the last
- * state are the trace, however it was cut. A piece may be shorter than the order, and an empty one changes nothing. */
+ * state are the trace, however it was cut. A piece may be shorter than the order, and an empty one changes nothing.
+ *
+ * Nothing in a state or in residuals says which trace they belong to: the state of one trace decodes the residuals of another, without a
+ * refusal, into samples that belong to neither. The caller keeps the two together. */
 CLASPOTTER_ANSWER uint32_t claspotter_decode_u8(size_t order, uint32_t shift, int64_t bias, const int32_t *weights,
     size_t weights_len, uint8_t *state, size_t state_len, uint8_t *piece, size_t piece_len);
 CLASPOTTER_ANSWER uint32_t claspotter_decode_u16(size_t order, uint32_t shift, int64_t bias, const int32_t *weights,
