@@ -72,7 +72,7 @@ bit-inside bytes at (suc n) v i room h =
       | no d ↦ bit-other w (at + n) (at + i) (bitOf v n) (omega arith) (λ e. d (omega arith)) ∙ bit-inside bytes at n v i (omega arith) (omega arith)
     ]
 
--- bytes behind the field stay whole
+-- bytes behind the field stay as they were
 pub byte-behind : (bytes : List ℕ) (at n v j : ℕ) → at + n ≤ 8 * j → getD (withField bytes at n v) j 0 ≡ getD bytes j 0
 unfolding withField
 byte-behind bytes at zero v j h = refl

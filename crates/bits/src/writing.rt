@@ -17,8 +17,8 @@ fn replace(byte: u8, p: usize, x: u64) -> u8
 {
     let one = power(p);
     let two = power(p + 1);
-    let whole = byte as u64;
-    (whole % one + x * one + whole / two * two) as u8
+    let bits = byte as u64;
+    (bits % one + x * one + bits / two * two) as u8
 }
 
 // Replaces bit i after the bit place `at`; past the end it changes nothing.

@@ -45,8 +45,8 @@ pub extern "C" fn claspotter_read_record(
     *state_n_log = numbers.state_n_log;
     *secondary_uses_delta = numbers.secondary_uses_delta as u32;
     *quantization = numbers.quantization.0;
-    let whole = numbers.bias;
-    *bias = whole;
+    let read_bias = numbers.bias;
+    *bias = read_bias;
     *bits = readout.bits;
     let answer = readout.answer;
     kinds::number(answer)

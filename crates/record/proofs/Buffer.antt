@@ -10,18 +10,18 @@ use Rattle.bits.specs.Fields.{bitAt, withField}
 use Rattle.bits.proofs.Fields.{bit-inside, byte-behind}
 use Rattle.kinds.specs.declared.Answer.the-variants.{Done}
 use Rattle.record.specs.declared.DeltaRecord.{DeltaRecord}
-use Rattle.record.specs.Writing.{Field, fieldsOf, bitsOf, putFields, unused, written, writeAnswer, bytesAfter}
+use Rattle.record.specs.Format.{fieldsOf, total, bitsOf}
+use Rattle.record.specs.Writing.{stored, putFields, putRecord, unused, written, writeAnswer, bytesAfter}
+use Rattle.record.proofs.Put.{put-all-length}
 use Rattle.record.proofs.Refusals.{passed}
-use Rattle.record.specs.Records.{Machine}
-use Rattle.record.proofs.Put.{widths, put-all-length}
-use Rattle.record.proofs.Round.{fields-width}
 
-byte-behind-all : (bytes : List ℕ) (at : ℕ) (fs : List Field) (j : ℕ) → at + widths fs ≤ 8 * j → getD (putFields bytes at fs) j 0 ≡ getD bytes j 0
-byte-behind-all bytes at [] j h = refl
-byte-behind-all bytes at (f ∷ fs) j h =
-    byte-behind-all (withField bytes at (f .width) (f .value)) (at + f .width) fs j (omega arith) ∙ byte-behind bytes at (f .width) (f .value) j (omega arith)
+byte-behind-all : (bytes : List ℕ) (at : ℕ) (fields numbers : List ℕ) (j : ℕ) → at + total fields ≤ 8 * j → getD (putFields bytes at fields numbers) j 0 ≡ getD bytes j 0
+byte-behind-all bytes at [] numbers j h = refl
+byte-behind-all bytes at (width ∷ fields) [] j h = refl
+byte-behind-all bytes at (width ∷ fields) (n ∷ numbers) j h =
+    byte-behind-all (withField bytes at width n) (at + width) fields numbers j (omega arith) ∙ byte-behind bytes at width n j (omega arith)
 
-module _ (delta : DeltaRecord) (bytes : List ℕ) (machine : Machine delta) (done : writeAnswer delta (length bytes) .answer ≡ Done) where
+module _ (delta : DeltaRecord) (bytes : List ℕ) (done : writeAnswer delta (length bytes) .answer ≡ Done) where
   -- the bytes that the record takes
   abbrev size : ℕ
   size = (bitsOf (delta .encoding) + 7) / 8
@@ -30,21 +30,21 @@ module _ (delta : DeltaRecord) (bytes : List ℕ) (machine : Machine delta) (don
   unfolding writeAnswer bytesAfter written
   unused-cleared i low high =
       let n = bitsOf (delta .encoding) in
-      let put = putFields bytes 0 (fieldsOf (delta .encoding) (delta .weights)) in
+      let put = putRecord (delta .encoding) (delta .weights) bytes in
       let p = passed (delta .encoding) (length bytes) done in
       let room : size ≤ length bytes = ltb-false (length bytes) size (p .roomy) in
       let j = i - n in
       let e : n + j ≡ i = omega arith in
       rw done
       (ap (bitAt (withField put n (unused n) 0)) (sym e)
-      ∙ bit-inside put n (unused n) 0 j (omega (arith, put-all-length bytes 0 (fieldsOf (delta .encoding) (delta .weights)))) (omega arith)
+      ∙ bit-inside put n (unused n) 0 j (omega (arith, put-all-length bytes 0 (fieldsOf (delta .encoding)) (stored (delta .encoding) (delta .weights)))) (omega arith)
       ∙ ap (λ (k : ℕ). k % 2) (zero-div (2 ^ j)))
 
   pub later-kept : (j : ℕ) → size ≤ j → getD (bytesAfter delta bytes) j 0 ≡ getD bytes j 0
   unfolding writeAnswer bytesAfter written
   later-kept j h =
       let n = bitsOf (delta .encoding) in
-      let fs = fieldsOf (delta .encoding) (delta .weights) in
-      let p = passed (delta .encoding) (length bytes) done in
-      let w = fields-width (delta .encoding) (delta .weights) (length bytes) p (machine .long) in
-      rw done (byte-behind (putFields bytes 0 fs) n (unused n) 0 j (omega arith) ∙ byte-behind-all bytes 0 fs j (omega (arith, w)))
+      let put = putRecord (delta .encoding) (delta .weights) bytes in
+      rw done
+      (byte-behind put n (unused n) 0 j (omega arith)
+      ∙ byte-behind-all bytes 0 (fieldsOf (delta .encoding)) (stored (delta .encoding) (delta .weights)) j (omega arith))

@@ -1,7 +1,7 @@
 pub mod Signed
+pub mod Put
 pub mod Weights
 pub mod Refusals
-pub mod Put
 pub mod Walk
 pub mod Local
 pub mod Used

@@ -1,18 +1,20 @@
 -- What an answer's number says: 0 is done, any other leaves things as they were; and what holds of a record that no test refuses.
 use mathlib.Core.Bool.{Bool, true, false, not, _||_, _&&_}
 use mathlib.Core.Path.{_≡_, refl}
-use Prim.Native.Nat.{ℕ, _-_, _≤_, _<_}
+use Prim.Native.Nat.{ℕ, _+_, _-_, _*_, _/_, _^_, _≤_, _<_}
 use native.Mathlib.Omega.{arith}
-use borrow.Author.Tests.{leb-true, leb-false, ltb-false, eqb-false}
+use borrow.Author.Tests.{leb-true, ltb-false, eqb-false}
 use lib.Dec.{leb, ltb, eqb}
 use Rattle.kinds.specs.declared.Answer.{Answer}
 use Rattle.kinds.specs.declared.Answer.the-variants.{Done, BadOrder, BadShift, Overflows, BadLength, TooFewSamples, NoConfiguration, BytesEnd, UnknownVariant, BadRecord, UnfitField, NoRoom}
 use Rattle.kinds.specs.Answers.{numberOf, refuse, whenDone}
 use Rattle.record.specs.declared.DeltaEncoding.{DeltaEncoding}
 use Rattle.record.specs.declared.DeltaEncoding.the-variants.{NoOp, Consecutive, Lookback, Conv1}
-use Rattle.record.specs.Widths.{weightPlace}
+use Rattle.record.specs.Format.{weightFields, total, bitsOf, weightsAt, logsMalformed}
+use Rattle.record.specs.Widths.{windowBits, stateBits, weightBits, greatest, greatestWindowLog}
+use Rattle.record.specs.Writing.{misordered, malformed, logsUnfit, unfit, tooLong, writingRefusal}
+use Rattle.record.proofs.Put.{weights-total}
 use Rattle.rule.specs.Refusals.{orderFits}
-use Rattle.record.specs.Writing.{bitsOf, misordered, malformed, unfit, tooLong, writingRefusal}
 
 pub number-done : (a : Answer) → numberOf a ≡ 0 → a ≡ Done
 number-done Done e = refl
@@ -76,21 +78,24 @@ order-range k e =
     let p = both (leb 1 k) (leb k 32) e in
     (leb-true 1 k (p .0), leb-true k 32 (p .1))
 
-pub window-range : (w s : ℕ) (flag : Bool) → malformed (Lookback w s flag) ≡ false → (w ≤ 24) × (s ≤ w)
-window-range w s flag e =
-    let p = neither (ltb 24 w) (ltb w s) e in
-    (ltb-false 24 w (p .0), ltb-false w s (p .1))
+pub window-range : (w s : ℕ) → logsMalformed w s ≡ false → (w ≤ greatestWindowLog) × (s ≤ w)
+window-range w s e =
+    let p = neither (ltb greatestWindowLog w) (ltb w s) e in
+    (ltb-false greatestWindowLog w (p .0), ltb-false w s (p .1))
 
-pub window-fits : (w s : ℕ) (flag : Bool) → unfit (Lookback w s flag) ≡ false → (0 < w) × (s < 16)
-window-fits w s flag e =
-    let p = neither (eqb w 0) (leb 32 (w - 1) || leb 16 s) e in
-    let q = neither (leb 32 (w - 1)) (leb 16 s) (p .1) in
+pub window-fits : (w s : ℕ) → logsUnfit w s ≡ false → (0 < w) × (w - 1 < 2 ^ windowBits) × (s < 2 ^ stateBits)
+window-fits w s e =
+    let p = neither (eqb w 0) (ltb (greatest windowBits) (w - 1) || ltb (greatest stateBits) s) e in
+    let q = neither (ltb (greatest windowBits) (w - 1)) (ltb (greatest stateBits) s) (p .1) in
     let some : w ≡ 0 → ⊥ = eqb-false w 0 (p .0) in
-    (omega arith, leb-false 16 s (q .1))
+    (omega arith, omega (arith, ltb-false (greatest windowBits) (w - 1) (q .0)), omega (arith, ltb-false (greatest stateBits) s (q .1)))
 
--- no record takes more bits than Conv1 with 32 weights
-pub bits-small : (encoding : DeltaEncoding) → misordered encoding ≡ false → bitsOf encoding ≤ weightPlace 32
+pub enough-room : (encoding : DeltaEncoding) (room : ℕ) → tooLong encoding room ≡ false → bitsOf encoding ≤ 8 * room
+enough-room encoding room e = omega (arith, ltb-false room ((bitsOf encoding + 7) / 8) e)
+
+-- no record takes more bits than a Conv1 with 32 weights
+pub bits-small : (encoding : DeltaEncoding) → misordered encoding ≡ false → bitsOf encoding ≤ weightsAt + weightBits * 32
 bits-small NoOp e = omega arith
 bits-small (Consecutive order flag) e = omega arith
 bits-small (Lookback window state flag) e = omega arith
-bits-small (Conv1 shift bias order) e = omega (arith, order-range (order .0) e .1)
+bits-small (Conv1 shift bias order) e = omega (arith, order-range (order .0) e .1, weights-total (order .0))

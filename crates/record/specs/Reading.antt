@@ -1,8 +1,8 @@
--- Document 01, "The delta record", for the reader: fields in order, each test as soon as its fields are read.
+-- What reading a delta record answers: its fields in order, each where the one before it ended, and each test as soon as its fields are read.
 use mathlib.Core.Bool.{Bool, false, cond, not}
-use mathlib.Core.List.{List, [], _∷_, _++_}
-use Prim.Native.Nat.{ℕ, zero, suc, _+_, _-_, _*_}
-use lib.Dec.{eqb, ltb}
+use mathlib.Core.List.{List, [], _∷_, _++_, map}
+use Prim.Native.Nat.{ℕ, _+_, _-_}
+use lib.Dec.{eqb}
 use lib.IntN.{ℤ, pos}
 use lib.ListN.{replicate}
 use Rattle.bits.specs.Fields.{fieldAt, holds}
@@ -11,8 +11,9 @@ use Rattle.kinds.specs.declared.Answer.the-variants.{Done, BadOrder, BytesEnd, 
 use Rattle.record.specs.declared.DeltaEncoding.{DeltaEncoding}
 use Rattle.record.specs.declared.DeltaEncoding.the-variants.{NoOp, Consecutive, Lookback, Conv1}
 use Rattle.record.specs.declared.Reading.{Reading}
+use Rattle.record.specs.Format.{consecutiveFields, lookbackFields, conv1Fields, weightFields, total, logsMalformed}
 use Rattle.record.specs.Signed.{lowered}
-use Rattle.record.specs.Widths.{variantBits, orderBits, flagBits, windowBits, stateBits, shiftBits, biasBits, countBits, weightBits, weightPlace, greatestWindowLog}
+use Rattle.record.specs.Widths.{variantBits, orderBits}
 use Rattle.rule.specs.Refusals.{orderFits}
 
 abbrev pub noWeights : List ℤ
@@ -25,72 +26,75 @@ given encoding weights bits = record { answer = Done; delta = record { encoding 
 abbrev pub refused : Answer → Reading
 refused answer = record { answer = answer; delta = record { encoding = NoOp; weights = noWeights }; bits = 0 }
 
--- a field, handed on to what is read after it; 7 where the bytes end before or inside it
-unfoldable pub reading : List ℕ → ℕ → ℕ → (ℕ → Reading) → Reading
-reading bytes at width next = cond (holds bytes at width) (next (fieldAt bytes at width)) (refused BytesEnd)
-
 -- a test: where it holds, the refusal
 abbrev pub refusing : Bool → Answer → Reading → Reading
 refusing test answer later = cond test (refused answer) later
 
+-- the first of the fields, at a bit place; its number, the place behind it and the other fields are handed on.
+-- 7 where the bytes end before or inside it
+unfoldable pub reading : List ℕ → ℕ → List ℕ → (ℕ → ℕ → List ℕ → Reading) → Reading
+reading bytes at [] next = refused BytesEnd
+reading bytes at (width ∷ fields) next =
+    cond (holds bytes at width) (next (fieldAt bytes at width) (at + width) fields) (refused BytesEnd)
+
 -- order 0 is 9
-unfoldable pub readConsecutive : List ℕ → Reading
-readConsecutive bytes =
-    reading bytes 4 orderBits λ order.
+unfoldable pub readConsecutive : List ℕ → ℕ → Reading
+readConsecutive bytes at =
+    reading bytes at consecutiveFields λ order at fields.
     refusing (eqb order 0) BadRecord
-    (reading bytes 7 flagBits λ flag.
-    given (Consecutive (record { 0 = order }) (eqb flag 1)) noWeights 8)
+    (reading bytes at fields λ flag at _.
+    given (Consecutive (record { 0 = order }) (eqb flag 1)) noWeights at)
 
--- the window's log is stored less 1; the two tests, 9, come after both logs
-unfoldable pub readLookback : List ℕ → Reading
-readLookback bytes =
-    reading bytes 4 windowBits λ window.
-    reading bytes 9 stateBits λ state.
-    refusing (ltb greatestWindowLog (window + 1)) BadRecord
-    (refusing (ltb (window + 1) state) BadRecord
-    (reading bytes 13 flagBits λ flag.
-    given (Lookback (window + 1) state (eqb flag 1)) noWeights 14))
+-- the window's log is stored less 1; malformed logs are 9, once both are read
+unfoldable pub readLookback : List ℕ → ℕ → Reading
+readLookback bytes at =
+    reading bytes at lookbackFields λ window at fields.
+    reading bytes at fields λ state at fields.
+    refusing (logsMalformed (window + 1) state) BadRecord
+    (reading bytes at fields λ flag at _.
+    given (Lookback (window + 1) state (eqb flag 1)) noWeights at)
 
--- the first n weights
-abbrev pub weightsIn : List ℕ → ℕ → List ℤ
-weightsIn bytes zero = []
-weightsIn bytes (suc n) = weightsIn bytes n ++ lowered 31 (fieldAt bytes (weightPlace n) weightBits) ∷ []
+-- the numbers in fields that follow one another
+abbrev pub numbersAt : List ℕ → ℕ → List ℕ → List ℕ
+numbersAt bytes at [] = []
+numbersAt bytes at (width ∷ fields) = fieldAt bytes at width ∷ numbersAt bytes (at + width) fields
 
--- in an array of 32, whose places past the order are 0
-abbrev pub weightArray : List ℕ → ℕ → List ℤ
-weightArray bytes order = weightsIn bytes order ++ replicate (32 - order) (pos 0)
+-- the weights in an array of 32, whose places past the order are 0
+abbrev pub weightArray : List ℕ → ℕ → ℕ → List ℤ
+weightArray bytes at order = map (lowered 31) (numbersAt bytes at (weightFields order)) ++ replicate (32 - order) (pos 0)
 
--- the weights, the last fields of an encoding whose other fields are read
-unfoldable pub readWeights : List ℕ → DeltaEncoding → ℕ → Reading
-readWeights bytes encoding order =
-    reading bytes (weightPlace 0) (weightBits * order) λ _.
-    given encoding (weightArray bytes order) (weightPlace order)
+-- the weights, the last fields of an encoding whose other fields are read; 7 where one of them is missing
+unfoldable pub readWeights : List ℕ → ℕ → DeltaEncoding → ℕ → Reading
+readWeights bytes at encoding order =
+    cond (holds bytes at (total (weightFields order)))
+    (given encoding (weightArray bytes at order) (at + total (weightFields order)))
+    (refused BytesEnd)
 
 -- the order is stored less 1; above 32 it is 1, which five bits can't hold
-unfoldable pub readConv1 : List ℕ → Reading
-readConv1 bytes =
-    reading bytes 4 shiftBits λ shift.
-    reading bytes 9 biasBits λ bias.
-    reading bytes 73 countBits λ count.
+unfoldable pub readConv1 : List ℕ → ℕ → Reading
+readConv1 bytes at =
+    reading bytes at conv1Fields λ shift at fields.
+    reading bytes at fields λ bias at fields.
+    reading bytes at fields λ count at _.
     refusing (not (orderFits (count + 1))) BadOrder
-    (readWeights bytes (Conv1 (record { 0 = shift }) (lowered 63 bias) (record { 0 = count + 1 })) (count + 1))
+    (readWeights bytes at (Conv1 (record { 0 = shift }) (lowered 63 bias) (record { 0 = count + 1 })) (count + 1))
 
 -- 0 nothing, 1 Consecutive, 2 Lookback, 3 Conv1, any other 8
 unfoldable pub readVariant : List ℕ → Reading
 readVariant bytes =
-    reading bytes 0 variantBits λ variant.
-    cond (eqb variant 0) (given NoOp noWeights 4)
-    (cond (eqb variant 1) (readConsecutive bytes)
-    (cond (eqb variant 2) (readLookback bytes)
-    (cond (eqb variant 3) (readConv1 bytes)
+    reading bytes 0 (variantBits ∷ []) λ variant at _.
+    cond (eqb variant 0) (given NoOp noWeights at)
+    (cond (eqb variant 1) (readConsecutive bytes at)
+    (cond (eqb variant 2) (readLookback bytes at)
+    (cond (eqb variant 3) (readConv1 bytes at)
     (refused UnknownVariant))))
 
 -- the form without variants: an order alone, 0 for nothing, the flag off
 unfoldable pub readOrder : List ℕ → Reading
 readOrder bytes =
-    reading bytes 0 orderBits λ order.
-    cond (eqb order 0) (given NoOp noWeights 3)
-    (given (Consecutive (record { 0 = order }) false) noWeights 3)
+    reading bytes 0 (orderBits ∷ []) λ order at _.
+    cond (eqb order 0) (given NoOp noWeights at)
+    (given (Consecutive (record { 0 = order }) false) noWeights at)
 
 unfoldable pub readRecord : List ℕ → Bool → Reading
 readRecord bytes variants = cond variants (readVariant bytes) (readOrder bytes)

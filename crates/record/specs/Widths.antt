@@ -1,5 +1,5 @@
--- Document 01, "The delta record": the width of each field, in bits, and the limit of the window test.
-use Prim.Native.Nat.{ℕ, _+_, _-_, _*_, _^_}
+-- The width of each field of a delta record, in bits, and the limits of what is written and read.
+use Prim.Native.Nat.{ℕ, _-_, _^_}
 
 abbrev pub variantBits : ℕ
 variantBits = 4
@@ -19,10 +19,6 @@ stateBits = 4
 abbrev pub shiftBits : ℕ
 shiftBits = 5
 
--- the greatest shift that its field holds
-abbrev pub greatestShift : ℕ
-greatestShift = 2 ^ shiftBits - 1
-
 abbrev pub biasBits : ℕ
 biasBits = 64
 
@@ -32,9 +28,13 @@ countBits = 5
 abbrev pub weightBits : ℕ
 weightBits = 32
 
--- the bit place where Conv1's weights begin, and that of weight i
-abbrev pub weightPlace : ℕ → ℕ
-weightPlace i = 78 + weightBits * i
+-- the greatest number that a field of so many bits holds
+abbrev pub greatest : ℕ → ℕ
+greatest width = 2 ^ width - 1
 
+abbrev pub greatestShift : ℕ
+greatestShift = greatest shiftBits
+
+-- the log of the greatest number of entries of a chunk: no larger window could be used
 abbrev pub greatestWindowLog : ℕ
 greatestWindowLog = 24

@@ -1,8 +1,8 @@
--- Document 01, "The delta record", for the writer: the tests 1, 9, 10, 11, and the buffer at exit.
+-- What writing a delta record answers, and the buffer at exit: the tests 1, 9, 10 and 11, and the same fields that are read.
 use mathlib.Core.Bool.{Bool, false, cond, not, _||_}
 use mathlib.Core.List.{List, [], _∷_, map}
-use Prim.Native.Nat.{ℕ, _+_, _-_, _/_, _%_, _^_}
-use lib.Dec.{eqb, leb, ltb}
+use Prim.Native.Nat.{ℕ, _+_, _-_, _/_, _%_}
+use lib.Dec.{eqb, ltb}
 use lib.IntN.{ℤ}
 use lib.ListN.{length, take}
 use Rattle.bits.specs.Fields.{withField}
@@ -13,44 +13,32 @@ use Rattle.record.specs.declared.DeltaEncoding.{DeltaEncoding}
 use Rattle.record.specs.declared.DeltaEncoding.the-variants.{NoOp, Consecutive, Lookback, Conv1}
 use Rattle.record.specs.declared.DeltaRecord.{DeltaRecord}
 use Rattle.record.specs.declared.Writing.{Writing}
+use Rattle.record.specs.Format.{fieldsOf, bitsOf, logsMalformed}
 use Rattle.record.specs.Signed.{raised}
-use Rattle.record.specs.Widths.{variantBits, orderBits, flagBits, windowBits, stateBits, shiftBits, biasBits, countBits, weightBits, weightPlace, greatestWindowLog}
+use Rattle.record.specs.Widths.{orderBits, windowBits, stateBits, greatest, greatestShift}
 use Rattle.rule.specs.Refusals.{orderFits}
-
--- a number, and the width of the field that it is written to
-pub record Field : Type 0 where
-  pub width : ℕ
-  pub value : ℕ
-
-abbrev pub of : ℕ → ℕ → Field
-of width value = record { width = width; value = value }
 
 abbrev pub flagValue : Bool → ℕ
 flagValue flag = cond flag 1 0
 
-abbrev pub weightField : ℤ → Field
-weightField weight = of weightBits (raised 31 weight)
+abbrev pub storedWeights : ℕ → List ℤ → List ℕ
+storedWeights order weights = map (raised 31) (take order weights)
 
--- the fields of a record, in order
-abbrev pub fieldsOf : DeltaEncoding → List ℤ → List Field
-fieldsOf NoOp weights = of variantBits 0 ∷ []
-fieldsOf (Consecutive order flag) weights = of variantBits 1 ∷ of orderBits (order .0) ∷ of flagBits (flagValue flag) ∷ []
-fieldsOf (Lookback window state flag) weights =
-    of variantBits 2 ∷ of windowBits (window - 1) ∷ of stateBits state ∷ of flagBits (flagValue flag) ∷ []
-fieldsOf (Conv1 shift bias order) weights =
-    of variantBits 3 ∷ of shiftBits (shift .0) ∷ of biasBits (raised 63 bias) ∷ of countBits (order .0 - 1) ∷ map weightField (take (order .0) weights)
+-- the number in each field of a record, in order
+abbrev pub stored : DeltaEncoding → List ℤ → List ℕ
+stored NoOp weights = 0 ∷ []
+stored (Consecutive order flag) weights = 1 ∷ order .0 ∷ flagValue flag ∷ []
+stored (Lookback window state flag) weights = 2 ∷ (window - 1) ∷ state ∷ flagValue flag ∷ []
+stored (Conv1 shift bias order) weights = 3 ∷ shift .0 ∷ raised 63 bias ∷ (order .0 - 1) ∷ storedWeights (order .0) weights
 
--- how many bits they take
-abbrev pub bitsOf : DeltaEncoding → ℕ
-bitsOf NoOp = 4
-bitsOf (Consecutive order flag) = 8
-bitsOf (Lookback window state flag) = 14
-bitsOf (Conv1 shift bias order) = weightPlace (order .0)
+-- numbers put into fields that follow one another from a bit place on
+abbrev pub putFields : List ℕ → ℕ → List ℕ → List ℕ → List ℕ
+putFields bytes at [] numbers = bytes
+putFields bytes at (width ∷ fields) [] = bytes
+putFields bytes at (width ∷ fields) (number ∷ numbers) = putFields (withField bytes at width number) (at + width) fields numbers
 
--- the fields put one after the other, from a bit place on
-abbrev pub putFields : List ℕ → ℕ → List Field → List ℕ
-putFields bytes at [] = bytes
-putFields bytes at (f ∷ fs) = putFields (withField bytes at (f .width) (f .value)) (at + f .width) fs
+abbrev pub putRecord : DeltaEncoding → List ℤ → List ℕ → List ℕ
+putRecord encoding weights bytes = putFields bytes 0 (fieldsOf encoding) (stored encoding weights)
 
 -- how many bits of the last byte are unused
 abbrev pub unused : ℕ → ℕ
@@ -58,8 +46,7 @@ unused bits = (8 - bits % 8) % 8
 
 -- the record from bit 0 on, the unused bits of its last byte 0, later bytes as they were
 unfoldable pub written : DeltaEncoding → List ℤ → List ℕ → List ℕ
-written encoding weights bytes =
-    withField (putFields bytes 0 (fieldsOf encoding weights)) (bitsOf encoding) (unused (bitsOf encoding)) 0
+written encoding weights bytes = withField (putRecord encoding weights bytes) (bitsOf encoding) (unused (bitsOf encoding)) 0
 
 -- test 1, for Conv1 alone
 abbrev pub misordered : DeltaEncoding → Bool
@@ -72,15 +59,19 @@ misordered (Conv1 shift bias order) = not (orderFits (order .0))
 abbrev pub malformed : DeltaEncoding → Bool
 malformed NoOp = false
 malformed (Consecutive order flag) = eqb (order .0) 0
-malformed (Lookback window state flag) = ltb greatestWindowLog window || ltb window state
+malformed (Lookback window state flag) = logsMalformed window state
 malformed (Conv1 shift bias order) = false
+
+-- logs that their fields can't hold, the window's less 1
+abbrev pub logsUnfit : ℕ → ℕ → Bool
+logsUnfit window state = eqb window 0 || (ltb (greatest windowBits) (window - 1) || ltb (greatest stateBits) state)
 
 -- test 10; every flag, bias and weight fits its field, and so does an order of 1 to 32 less 1
 abbrev pub unfit : DeltaEncoding → Bool
 unfit NoOp = false
-unfit (Consecutive order flag) = leb (2 ^ orderBits) (order .0)
-unfit (Lookback window state flag) = eqb window 0 || (leb (2 ^ windowBits) (window - 1) || leb (2 ^ stateBits) state)
-unfit (Conv1 shift bias order) = leb (2 ^ shiftBits) (shift .0)
+unfit (Consecutive order flag) = ltb (greatest orderBits) (order .0)
+unfit (Lookback window state flag) = logsUnfit window state
+unfit (Conv1 shift bias order) = ltb greatestShift (shift .0)
 
 -- test 11, for a buffer of so many bytes
 abbrev pub tooLong : DeltaEncoding → ℕ → Bool

@@ -5,7 +5,7 @@ use crate::numbers::encoding_of;
 use crate::numbers::numbers_answer;
 use crate::numbers::numbers_of;
 use kinds::Answer;
-use kinds::SampleCount;
+use kinds::WeightCount;
 use record::DeltaEncoding;
 use record::DeltaRecord;
 use record::MAX_CONV1_DELTA_ORDER;
@@ -122,7 +122,7 @@ pub fn write(numbers: Numbers, weights: &[i32], bytes: &mut [u8]) -> Writing
     ensures { λ r. ⌜ r ≡ writeNumbers numbers (now (weights .entry)) (length (now (bytes .entry))) ⌝ }
     ensures { λ _. ⌜ now (bytes .exit) ≡ bytesAfterNumbers numbers (now (weights .entry)) (now (bytes .entry)) ⌝ }
 {
-    let answer = numbers_answer(numbers, SampleCount(weights.len()));
+    let answer = numbers_answer(numbers, WeightCount(weights.len()));
     if !kinds::is_done(answer) {
         return Writing { answer, bits: 0 };
     }

@@ -2,8 +2,8 @@
 // where the numbers come from an encoding, and is not looked at where an encoding comes from them.
 use kinds::Answer;
 use kinds::Order;
-use kinds::SampleCount;
 use kinds::Shift;
+use kinds::WeightCount;
 use record::DeltaEncoding;
 ghost use mathlib.Core.Path.{_≡_};
 ghost use Rattle.record_numbers.specs.Numbers.{given, numbersOf, encodingOf};
@@ -104,7 +104,7 @@ pub fn encoding_of(numbers: Numbers) -> DeltaEncoding
 }
 
 // Tests 1 and 4 of Conv1.
-fn conv1_answer(order: Order, weights: SampleCount) -> Answer
+fn conv1_answer(order: Order, weights: WeightCount) -> Answer
     ensures { λ r. ⌜ r ≡ conv1Refusal (order .0) (weights .0) ⌝ }
 {
     if !admission::limits::is_order(order) {
@@ -117,7 +117,7 @@ fn conv1_answer(order: Order, weights: SampleCount) -> Answer
 }
 
 // The tests that come before there is a record.
-pub fn numbers_answer(numbers: Numbers, weights: SampleCount) -> Answer
+pub fn numbers_answer(numbers: Numbers, weights: WeightCount) -> Answer
     ensures { λ r. ⌜ r ≡ numbersRefusal numbers (weights .0) ⌝ }
 {
     let variant = numbers.variant;

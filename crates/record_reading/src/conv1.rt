@@ -2,9 +2,10 @@
 ghost use mathlib.Core.Path.{_≡_};
 ghost use Prim.Native.Nat.{_*_, _^_, _≤_, _<_};
 ghost use lib.ListN.{length};
+ghost use Rattle.record.specs.Format.{weightsAt};
 ghost use Rattle.record.specs.Reading.{readWeights, readConv1};
 ghost use Rattle.record.specs.Signed.{lowered};
-ghost use Rattle.record.specs.Widths.{weightPlace};
+ghost use Rattle.record.specs.Widths.{variantBits};
 use bits::Found;
 use bits::reading::read_uint;
 use kinds::Answer;
@@ -45,13 +46,14 @@ fn bias_from_latent_ordered(latent: u64) -> i64
 }
 
 // The weights, as the last fields of an encoding whose other fields are read.
-fn read_weights(bytes: &[u8], encoding: DeltaEncoding, order: usize) -> Reading
-    requires { ⌜ (0 < order) × (order ≤ 32) × (weightPlace 0 ≤ 8 * length (now bytes)) ⌝ }
-    ensures { λ r. ⌜ r ≡ readWeights (now (bytes .entry)) encoding order ⌝ }
+fn read_weights(bytes: &[u8], encoding: DeltaEncoding, order: Order) -> Reading
+    requires { ⌜ (0 < order .0) × (order .0 ≤ 32) × (weightsAt ≤ 8 * length (now bytes)) ⌝ }
+    ensures { λ r. ⌜ r ≡ readWeights (now (bytes .entry)) weightsAt encoding (order .0) ⌝ }
 {
+    let k = order.0;
     let mut weights = [0i32; 32];
     let mut i = 0;
-    while i < order {
+    while i < k {
         let at = AFTER_N_WEIGHTS + BITS_TO_ENCODE_DELTA_CONV_WEIGHT * i;
         let Found::Number(latent) = read_uint(bytes, at, BITS_TO_ENCODE_DELTA_CONV_WEIGHT) else {
             return refuse(Answer::BytesEnd);
@@ -59,12 +61,12 @@ fn read_weights(bytes: &[u8], encoding: DeltaEncoding, order: usize) -> Reading
         weights[i] = weight_from_latent_ordered(latent);
         i += 1;
     }
-    let bits = AFTER_N_WEIGHTS + BITS_TO_ENCODE_DELTA_CONV_WEIGHT * order;
+    let bits = AFTER_N_WEIGHTS + BITS_TO_ENCODE_DELTA_CONV_WEIGHT * k;
     give(encoding, weights, bits)
 }
 
 pub fn read_conv1(bytes: &[u8]) -> Reading
-    ensures { λ r. ⌜ r ≡ readConv1 (now (bytes .entry)) ⌝ }
+    ensures { λ r. ⌜ r ≡ readConv1 (now (bytes .entry)) variantBits ⌝ }
 {
     let Found::Number(quantization) = read_uint(
         bytes,
@@ -81,11 +83,11 @@ pub fn read_conv1(bytes: &[u8]) -> Reading
     else {
         return refuse(Answer::BytesEnd);
     };
-    let order = n_weights as usize + 1;
+    let order = Order(n_weights as usize + 1);
     let encoding = DeltaEncoding::Conv1 {
         quantization: Shift(quantization as u32),
         bias: bias_from_latent_ordered(bias),
-        order: Order(order),
+        order,
     };
     read_weights(bytes, encoding, order)
 }

@@ -1,6 +1,7 @@
 // The delta record's reader. Each field is asked for at its bit place, so the first that is missing decides.
 ghost use mathlib.Core.Path.{_≡_};
 ghost use Rattle.record.specs.Reading.{readConsecutive, readLookback, readVariant, readOrder, readRecord};
+ghost use Rattle.record.specs.Widths.{variantBits};
 use crate::conv1::read_conv1;
 use bits::Found;
 use bits::reading::read_uint;
@@ -43,7 +44,7 @@ fn read_from_pre_v3(bytes: &[u8]) -> Reading
 }
 
 fn read_consecutive(bytes: &[u8]) -> Reading
-    ensures { λ r. ⌜ r ≡ readConsecutive (now (bytes .entry)) ⌝ }
+    ensures { λ r. ⌜ r ≡ readConsecutive (now (bytes .entry)) variantBits ⌝ }
 {
     let Found::Number(order) = read_uint(bytes, AFTER_VARIANT, BITS_TO_ENCODE_DELTA_ENCODING_ORDER)
     else {
@@ -63,7 +64,7 @@ fn read_consecutive(bytes: &[u8]) -> Reading
 }
 
 fn read_lookback(bytes: &[u8]) -> Reading
-    ensures { λ r. ⌜ r ≡ readLookback (now (bytes .entry)) ⌝ }
+    ensures { λ r. ⌜ r ≡ readLookback (now (bytes .entry)) variantBits ⌝ }
 {
     let Found::Number(window) = read_uint(
         bytes,

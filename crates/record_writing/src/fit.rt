@@ -1,10 +1,9 @@
-// What of a record can be written: document 01's tests in their order, and the record's size in bits.
-ghost use mathlib.Core.Bool.{false, not, _||_};
+// What of a record can be written: the tests, of which the lowest number decides, and the record's size in bits.
+ghost use mathlib.Core.Bool.{false, not};
 ghost use mathlib.Core.Path.{_≡_};
-ghost use Prim.Native.Nat.{_-_};
-ghost use lib.Dec.{eqb, leb, ltb};
+ghost use Rattle.record.specs.Format.{bitsOf, logsMalformed};
+ghost use Rattle.record.specs.Writing.{misordered, malformed, logsUnfit, unfit, writingRefusal};
 ghost use Rattle.rule.specs.Refusals.{orderFits};
-ghost use Rattle.record.specs.Writing.{bitsOf, misordered, malformed, unfit, writingRefusal};
 use kinds::Answer;
 use kinds::Order;
 use record::AFTER_N_WEIGHTS;
@@ -58,7 +57,7 @@ fn is_misordered(encoding: DeltaEncoding) -> bool
 }
 
 fn logs_malformed(window_n_log: u32, state_n_log: u32) -> bool
-    ensures { λ r. ⌜ r ≡ (ltb 24 «window_n_log» || ltb «window_n_log» «state_n_log») ⌝ }
+    ensures { λ r. ⌜ r ≡ logsMalformed «window_n_log» «state_n_log» ⌝ }
 {
     if window_n_log > MAX_DELTA_LOOKBACK_WINDOW_N_LOG {
         return true;
@@ -91,7 +90,7 @@ fn is_malformed(encoding: DeltaEncoding) -> bool
 
 // A window's log is stored less 1, so 0 does not fit.
 fn logs_unfit(window_n_log: u32, state_n_log: u32) -> bool
-    ensures { λ r. ⌜ r ≡ (eqb «window_n_log» 0 || (leb 32 («window_n_log» - 1) || leb 16 «state_n_log»)) ⌝ }
+    ensures { λ r. ⌜ r ≡ logsUnfit «window_n_log» «state_n_log» ⌝ }
 {
     if window_n_log == 0 {
         return true;
@@ -149,7 +148,7 @@ fn bit_size(encoding: DeltaEncoding) -> usize
     }
 }
 
-// The tests for a buffer of `room` bytes, in document 01's order.
+// The tests for a buffer of `room` bytes: the first that holds, in the order of their numbers.
 pub fn refusal(encoding: DeltaEncoding, room: usize) -> Answer
     ensures { λ r. ⌜ r ≡ writingRefusal encoding room ⌝ }
 {

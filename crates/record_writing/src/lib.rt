@@ -2,12 +2,12 @@
 ghost use mathlib.Core.Bool.{false};
 ghost use mathlib.Core.Path.{_≡_};
 ghost use Prim.Native.Nat.{_≤_, _<_};
-ghost use lib.ListN.{length, take};
-ghost use mathlib.Core.List.{[], map};
+ghost use lib.ListN.{length};
+ghost use mathlib.Core.List.{[]};
 ghost use Rattle.bits.specs.Fields.{withField};
+ghost use Rattle.record.specs.Format.{weightFields, bitsOf, weightsAt};
 ghost use Rattle.record.specs.Signed.{raised};
-ghost use Rattle.record.specs.Widths.{weightPlace};
-ghost use Rattle.record.specs.Writing.{flagValue, weightField, fieldsOf, bitsOf, putFields, unused, misordered, unfit, writeAnswer, bytesAfter};
+ghost use Rattle.record.specs.Writing.{flagValue, storedWeights, putFields, putRecord, unused, misordered, unfit, writeAnswer, bytesAfter};
 use crate::fit::refusal;
 use bits::writing::write_uint;
 use kinds::Order;
@@ -62,16 +62,16 @@ fn flag_value(flag: bool) -> u64
 }
 
 fn write_no_op(bytes: &mut [u8]) -> usize
-    ensures { λ r. ⌜ r ≡ 4 ⌝ }
-    ensures { λ _. ⌜ now (bytes .exit) ≡ putFields (now (bytes .entry)) 0 (fieldsOf DeltaEncoding.NoOp []) ⌝ }
+    ensures { λ r. ⌜ r ≡ bitsOf DeltaEncoding.NoOp ⌝ }
+    ensures { λ _. ⌜ now (bytes .exit) ≡ putRecord DeltaEncoding.NoOp [] (now (bytes .entry)) ⌝ }
 {
     write_uint(bytes, 0, BITS_TO_ENCODE_DELTA_ENCODING_VARIANT, 0);
     AFTER_VARIANT
 }
 
 fn write_consecutive(order: Order, flag: bool, bytes: &mut [u8]) -> usize
-    ensures { λ r. ⌜ r ≡ 8 ⌝ }
-    ensures { λ _. ⌜ now (bytes .exit) ≡ putFields (now (bytes .entry)) 0 (fieldsOf (DeltaEncoding.Consecutive order flag) []) ⌝ }
+    ensures { λ r. ⌜ r ≡ bitsOf (DeltaEncoding.Consecutive order flag) ⌝ }
+    ensures { λ _. ⌜ now (bytes .exit) ≡ putRecord (DeltaEncoding.Consecutive order flag) [] (now (bytes .entry)) ⌝ }
 {
     let k = order.0;
     write_uint(bytes, 0, BITS_TO_ENCODE_DELTA_ENCODING_VARIANT, 1);
@@ -87,8 +87,8 @@ fn write_consecutive(order: Order, flag: bool, bytes: &mut [u8]) -> usize
 
 fn write_lookback(window_n_log: u32, state_n_log: u32, flag: bool, bytes: &mut [u8]) -> usize
     requires { ⌜ 0 < «window_n_log» ⌝ }
-    ensures { λ r. ⌜ r ≡ 14 ⌝ }
-    ensures { λ _. ⌜ now (bytes .exit) ≡ putFields (now (bytes .entry)) 0 (fieldsOf (DeltaEncoding.Lookback «window_n_log» «state_n_log» flag) []) ⌝ }
+    ensures { λ r. ⌜ r ≡ bitsOf (DeltaEncoding.Lookback «window_n_log» «state_n_log» flag) ⌝ }
+    ensures { λ _. ⌜ now (bytes .exit) ≡ putRecord (DeltaEncoding.Lookback «window_n_log» «state_n_log» flag) [] (now (bytes .entry)) ⌝ }
 {
     write_uint(bytes, 0, BITS_TO_ENCODE_DELTA_ENCODING_VARIANT, 2);
     write_uint(
@@ -107,12 +107,13 @@ fn write_lookback(window_n_log: u32, state_n_log: u32, flag: bool, bytes: &mut [
     AFTER_STATE + BITS_TO_ENCODE_FLAG
 }
 
-fn write_weights(weights: [i32; 32], order: usize, bytes: &mut [u8])
-    requires { ⌜ order ≤ 32 ⌝ }
-    ensures { λ _. ⌜ now (bytes .exit) ≡ putFields (now (bytes .entry)) (weightPlace 0) (map weightField (take order weights)) ⌝ }
+fn write_weights(weights: [i32; 32], order: Order, bytes: &mut [u8])
+    requires { ⌜ order .0 ≤ 32 ⌝ }
+    ensures { λ _. ⌜ now (bytes .exit) ≡ putFields (now (bytes .entry)) weightsAt (weightFields (order .0)) (storedWeights (order .0) weights) ⌝ }
 {
+    let k = order.0;
     let mut i = 0;
-    while i < order {
+    while i < k {
         let at = AFTER_N_WEIGHTS + BITS_TO_ENCODE_DELTA_CONV_WEIGHT * i;
         let weight = weights[i];
         write_uint(
@@ -133,8 +134,8 @@ fn write_conv1(
     bytes: &mut [u8],
 ) -> usize
     requires { ⌜ (0 < order .0) × (order .0 ≤ 32) ⌝ }
-    ensures { λ r. ⌜ r ≡ weightPlace (order .0) ⌝ }
-    ensures { λ _. ⌜ now (bytes .exit) ≡ putFields (now (bytes .entry)) 0 (fieldsOf (DeltaEncoding.Conv1 quantization bias order) weights) ⌝ }
+    ensures { λ r. ⌜ r ≡ bitsOf (DeltaEncoding.Conv1 quantization bias order) ⌝ }
+    ensures { λ _. ⌜ now (bytes .exit) ≡ putRecord (DeltaEncoding.Conv1 quantization bias order) weights (now (bytes .entry)) ⌝ }
 {
     let k = order.0;
     let q = quantization.0;
@@ -157,7 +158,7 @@ fn write_conv1(
         BITS_TO_ENCODE_DELTA_CONV_N_WEIGHTS,
         (k - 1) as u64,
     );
-    write_weights(weights, k, bytes);
+    write_weights(weights, order, bytes);
     AFTER_N_WEIGHTS + BITS_TO_ENCODE_DELTA_CONV_WEIGHT * k
 }
 
@@ -165,7 +166,7 @@ fn write_conv1(
 fn write_fields(encoding: DeltaEncoding, weights: [i32; 32], bytes: &mut [u8]) -> usize
     requires { ⌜ (misordered encoding ≡ false) × (unfit encoding ≡ false) ⌝ }
     ensures { λ r. ⌜ r ≡ bitsOf encoding ⌝ }
-    ensures { λ _. ⌜ now (bytes .exit) ≡ putFields (now (bytes .entry)) 0 (fieldsOf encoding weights) ⌝ }
+    ensures { λ _. ⌜ now (bytes .exit) ≡ putRecord encoding weights (now (bytes .entry)) ⌝ }
 {
     match encoding {
         DeltaEncoding::NoOp => write_no_op(bytes),

@@ -21,8 +21,8 @@ below-fits c = subst (λ (z : ℤ). mag z < 2 ^ 63) (below c .1) (c .before .fit
 worked : (c : tie.Then1) → negsuc 0 -ℤ toZ w64 (ofZ w64 (c .before .args .z)) ≡ pos (below c .0)
 worked c = complement w64 (c .before .args .z) (below c .0) (c .before .fits .z) (below c .1)
 
-whole : (c : tie.Then1) → toZ w64 (ofZ w64 (negsuc 0 -ℤ toZ w64 (ofZ w64 (c .before .args .z)))) ≡ pos (below c .0)
-whole c = ap (λ (z : ℤ). toZ w64 (ofZ w64 z)) (worked c) ∙ toZ-pos w64 (below-fits c)
+cast-back : (c : tie.Then1) → toZ w64 (ofZ w64 (negsuc 0 -ℤ toZ w64 (ofZ w64 (c .before .args .z)))) ≡ pos (below c .0)
+cast-back c = ap (λ (z : ℤ). toZ w64 (ofZ w64 z)) (worked c) ∙ toZ-pos w64 (below-fits c)
 
 above : (c : tie.Else1) → (n : ℕ) × (c .before .args .z ≡ pos n)
 above c = natural (c .before .args .z) (ap (λ (z : ℤ). ltZ z (pos 0)) (sym (toZ-ofZ (c .before .fits .z))) ∙ c .if1 .left)
@@ -31,10 +31,10 @@ sub-result : tie.Need-sub-result
 sub-result c = rw (worked c) (record { sfits = below-fits c })
 
 cast-result : tie.Need-cast-result
-cast-result c = rw (whole c) (tt, record { fits = omega (arith, below-fits c) })
+cast-result c = rw (cast-back c) (tt, record { fits = omega (arith, below-fits c) })
 
 add-result : tie.Need-add-result
-add-result c = rw (whole c) (record { fits = omega (arith, below-fits c) })
+add-result c = rw (cast-back c) (record { fits = omega (arith, below-fits c) })
 
 returns : tie.Need-returns
 returns c = search needs

@@ -1,7 +1,8 @@
 -- `write_conv1` puts the fields of the definition one after the other, and then the weights.
-use mathlib.Core.Path.{refl}
-use mir.Facts.{toZ-ofZ}
+use native.Mathlib.Omega.{arith}
 use borrow.Author.Needs.{needs}
+use mir.Facts.{toZ-ofZ}
+use Rattle.record.proofs.Put.{weights-total}
 use Rattle.record_writing.proofs.write_conv1.Statement.{statement}
 use Rattle.record_writing.proofs.write_conv1.Tie as tie
 
@@ -45,7 +46,7 @@ returns c =
     let w3 = w4 .before .before .before .before in
     let w2 = w3 .before .before .before .before .before in
     let w1 = w2 .before .before .before .before in
-    (refl, rw (ws .write-weights .ensures, w4 .write-uint4 .ensures, w3 .write-uint3 .ensures, w3 .before .bias-to-latent-ordered .ensures, toZ-ofZ (w1 .before .before .before .fits .bias), w2 .write-uint2 .ensures, w1 .write-uint .ensures))
+    (omega (arith, weights-total (w1 .before .before .before .args .order .0)), rw (ws .write-weights .ensures, w4 .write-uint4 .ensures, w3 .write-uint3 .ensures, w3 .before .bias-to-latent-ordered .ensures, toZ-ofZ (w1 .before .before .before .fits .bias), w2 .write-uint2 .ensures, w1 .write-uint .ensures))
 
 pub write-conv1-spec : {M : Type 1} → statement M
 write-conv1-spec =

@@ -27,7 +27,7 @@ enum-known-encoding-2 c = search needs
 write-lookback-requires : tie.Need-write-lookback-requires
 write-lookback-requires c κs =
     let e = c .before .before .encoding2 .given in
-    window-fits (e .0 .0) (e .0 .1 .0) (e .0 .1 .1 .0) (ap unfit (sym (e .1)) ∙ c .before .before .before .before .before .pre .1) .0
+    window-fits (e .0 .0) (e .0 .1 .0) (ap unfit (sym (e .1)) ∙ c .before .before .before .before .before .pre .1) .0
 
 enum-known-encoding-3 : tie.Need-enum-known-encoding-3
 enum-known-encoding-3 c = search needs

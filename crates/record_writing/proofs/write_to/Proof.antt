@@ -9,7 +9,8 @@ use Rattle.kinds.specs.Answers.{numberOf}
 use Rattle.kinds.specs.declared.Answer.{Answer}
 use Rattle.kinds.specs.declared.Answer.the-variants.{Done}
 use Rattle.record.specs.declared.Writing.{Writing}
-use Rattle.record.specs.Writing.{bitsOf, unused, writingRefusal, written, writeAnswer, bytesAfter}
+use Rattle.record.specs.Format.{bitsOf}
+use Rattle.record.specs.Writing.{unused, writingRefusal, written, writeAnswer, bytesAfter}
 use Rattle.record.proofs.Refusals.{number-done, when-refused, passed}
 use Rattle.record_writing.proofs.write_to.Statement.{statement}
 use Rattle.record_writing.proofs.write_to.Tie as tie

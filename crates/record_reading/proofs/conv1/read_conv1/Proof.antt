@@ -101,11 +101,11 @@ returns-3 c =
     let short = absent (k .before .before .before .before .before .args .bytes .now) 73 5 (omega arith) (sym (c .before .before .before .read-uint3 .ensures) ∙ c .before .enum-told3 .given .1) in
     rw (shift k .0, shift k .1, bias b .0, bias b .1, short) (c .refuse3 .ensures)
 
-add-order : tie.Need-add-order
-add-order c = omega (arith, small c)
+add-t14 : tie.Need-add-t14
+add-t14 c = omega (arith, small c)
 
-cast-t14 : tie.Need-cast-t14
-cast-t14 c =
+cast-t15 : tie.Need-cast-t15
+cast-t15 c =
     let k = c .before .before .before .before .before .before .before .before in
     omega (arith, shift k .1, field-lt (k .before .before .before .before .before .args .bytes .now) 4 5)
 
@@ -151,8 +151,8 @@ read-conv1-spec =
     enum-told-3
     refuse-requires-3
     returns-3
-    add-order
-    cast-t14
+    add-t14
+    cast-t15
     bias-from-latent-ordered-requires
     read-weights-requires
     returns-4)

@@ -2,7 +2,7 @@
 use mathlib.Core.Bool.{true}
 use mathlib.Core.List.{List}
 use mathlib.Core.Path.{_≡_, refl, sym, ap, _∙_}
-use Prim.Native.Nat.{_+_, _-_, _*_, _≤_}
+use Prim.Native.Nat.{ℕ, _+_, _-_, _*_, _≤_}
 use native.Mathlib.Omega.{arith}
 use borrow.Author.Needs.{needs}
 use borrow.Author.Tests.{le-leb, lt-leb, leb-true, leb-false}
@@ -13,27 +13,33 @@ use mir.Syntax.{w32}
 use mir.Val.{SFits, toZ, ofZ}
 use Rattle.bits.specs.Fields.{fieldAt, holds}
 use Rattle.bits.proofs.Fields.{absent, present, field-lt}
-use Rattle.record.specs.Reading.{reading, given, weightArray, readWeights}
+use Rattle.record.specs.Format.{weightFields, total, weightsAt}
+use Rattle.record.specs.Reading.{given, weightArray, readWeights}
 use Rattle.record.specs.Signed.{lowered}
-use Rattle.record.specs.Widths.{weightPlace}
+use Rattle.record.specs.Widths.{weightBits}
+use Rattle.record.proofs.Put.{weights-total}
 use Rattle.record.proofs.Signed.{lowered-fits}
 use Rattle.record.proofs.Weights.{array-more}
 use Rattle.record_reading.proofs.conv1.read_weights.Statement.{statement}
 use Rattle.record_reading.proofs.conv1.read_weights.Tie as tie
 
+-- of weight i
+abbrev place : ℕ → ℕ
+place i = weightsAt + weightBits * i
+
 abbrev Inv-loop : tie.InvT-loop
-Inv-loop bytes encoding order weights₀ i₀ weights i =
-    (i ≤ order) × (weightPlace i ≤ 8 * length bytes) × (weights ≡ weightArray bytes i)
+Inv-loop bytes encoding k weights₀ i₀ weights i =
+    (i ≤ k) × (place i ≤ 8 * length bytes) × (weights ≡ weightArray bytes weightsAt i)
 
 abbrev μ-loop : tie.MeasureT-loop
-μ-loop bytes encoding order weights₀ i₀ weights i = order - i
+μ-loop bytes encoding k weights₀ i₀ weights i = k - i
 
 latent :
     (c : tie.After-known-told Inv-loop μ-loop) →
-    (holds (c .before .before .before .before .before .before .before .args .bytes .now) (weightPlace (c .before .before .before .before .before .loop .i)) 32 ≡ true)
-    × (fieldAt (c .before .before .before .before .before .before .before .args .bytes .now) (weightPlace (c .before .before .before .before .before .loop .i)) 32 ≡ c .before .latent .given .0 .0)
+    (holds (c .before .before .before .before .before .before .before .args .bytes .now) (place (c .before .before .before .before .before .loop .i)) 32 ≡ true)
+    × (fieldAt (c .before .before .before .before .before .before .before .args .bytes .now) (place (c .before .before .before .before .before .loop .i)) 32 ≡ c .before .latent .given .0 .0)
 latent c =
-    present (c .before .before .before .before .before .before .before .args .bytes .now) (weightPlace (c .before .before .before .before .before .loop .i)) 32 (c .before .latent .given .0 .0)
+    present (c .before .before .before .before .before .before .before .args .bytes .now) (place (c .before .before .before .before .before .loop .i)) 32 (c .before .latent .given .0 .0)
     (omega arith)
     (sym (c .before .before .before .read-uint .ensures) ∙ c .before .latent .given .1)
 
@@ -59,18 +65,20 @@ refuse-requires : tie.Need-refuse-requires Inv-loop μ-loop
 refuse-requires c κs = tt
 
 returns : tie.Need-returns Inv-loop μ-loop
-unfolding readWeights reading
+unfolding readWeights
 returns c =
     let l = c .before .before .before .before .before .loop in
     let a = c .before .before .before .before .before .before .before .args in
-    let short = absent (a .bytes .now) (weightPlace (l .i)) 32 (omega arith) (sym (c .before .before .before .read-uint .ensures) ∙ c .before .enum-told .given .1) in
-    rw (lt-leb (78 + 32 * a .order) (8 * length (a .bytes .now)) (omega (arith, leb-false (weightPlace (l .i) + 32) (8 * length (a .bytes .now)) short))) (c .refuse .ensures)
+    let short = absent (a .bytes .now) (place (l .i)) 32 (omega arith) (sym (c .before .before .before .read-uint .ensures) ∙ c .before .enum-told .given .1) in
+    let k = a .order .0 in
+    rw (lt-leb (weightsAt + total (weightFields k)) (8 * length (a .bytes .now)) (omega (arith, weights-total k, leb-false (place (l .i) + 32) (8 * length (a .bytes .now)) short)))
+    (c .refuse .ensures)
 
 weight-from-latent-ordered-requires : tie.Need-weight-from-latent-ordered-requires Inv-loop μ-loop
 weight-from-latent-ordered-requires c κs =
     let l = c .before .before .before .before .before .loop in
     let a = c .before .before .before .before .before .before .before .args in
-    omega (arith, latent c .1, field-lt (a .bytes .now) (weightPlace (l .i)) 32)
+    omega (arith, latent c .1, field-lt (a .bytes .now) (place (l .i)) 32)
 
 mul-weights : tie.Need-mul-weights Inv-loop μ-loop
 mul-weights c = omega arith
@@ -90,13 +98,13 @@ loop-again c =
     let l = k .before .before .before .before .before .loop in
     let a = k .before .before .before .before .before .before .before .args in
     let v = k .before .latent .given .0 .0 in
-    let fits : SFits w32 (lowered 31 v) = record { sfits = lowered-fits 31 v (omega (arith, latent k .1, field-lt (a .bytes .now) (weightPlace (l .i)) 32)) } in
+    let fits : SFits w32 (lowered 31 v) = record { sfits = lowered-fits 31 v (omega (arith, latent k .1, field-lt (a .bytes .now) (place (l .i)) 32)) } in
     let told = ap (λ (z : ℤ). toZ w32 (ofZ w32 z)) (c .weight-from-latent-ordered .ensures) ∙ toZ-ofZ fits in (
       omega arith,
-      omega (arith, leb-true (weightPlace (l .i) + 32) (8 * length (a .bytes .now)) (latent k .0)),
+      omega (arith, leb-true (place (l .i) + 32) (8 * length (a .bytes .now)) (latent k .0)),
       ap (λ (z : ℤ). set (l .weights) (l .i) z) (told ∙ ap (lowered 31) (sym (latent k .1)))
-          ∙ ap (λ (ws : List ℤ). set ws (l .i) (lowered 31 (fieldAt (a .bytes .now) (weightPlace (l .i)) 32))) (l .inv .2)
-          ∙ array-more (a .bytes .now) (l .i) (omega arith),
+          ∙ ap (λ (ws : List ℤ). set ws (l .i) (lowered 31 (fieldAt (a .bytes .now) (place (l .i)) 32))) (l .inv .2)
+          ∙ array-more (a .bytes .now) weightsAt (l .i) (omega arith),
     )
 
 mul-bits : tie.Need-mul-bits Inv-loop μ-loop
@@ -109,14 +117,17 @@ give-requires : tie.Need-give-requires Inv-loop μ-loop
 give-requires c κs = tt
 
 returns-2 : tie.Need-returns-2 Inv-loop μ-loop
-unfolding readWeights reading
+unfolding readWeights
 returns-2 c =
     let l = c .before .before .loop in
     let a = c .before .before .before .before .args in
-    let e : l .i ≡ a .order = omega arith in
-    rw (le-leb (78 + 32 * a .order) (8 * length (a .bytes .now)) (omega arith))
+    let k = a .order .0 in
+    let e : l .i ≡ k = omega arith in
+    let bits : place k ≡ weightsAt + total (weightFields k) = omega (arith, weights-total k) in
+    rw (le-leb (weightsAt + total (weightFields k)) (8 * length (a .bytes .now)) (omega (arith, weights-total k)))
     (c .give .ensures
-    ∙ ap (λ (ws : List ℤ). given (a .encoding) ws (weightPlace (a .order))) (l .inv .2 ∙ ap (weightArray (a .bytes .now)) e))
+    ∙ ap (λ (ws : List ℤ). given (a .encoding) ws (place k)) (l .inv .2 ∙ ap (weightArray (a .bytes .now) weightsAt) e)
+    ∙ ap (given (a .encoding) (weightArray (a .bytes .now) weightsAt k)) bits)
 
 pub read-weights-spec : {M : Type 1} → statement M
 read-weights-spec =

@@ -4,6 +4,7 @@ use Prim.Native.Nat.{_≤_}
 use native.Mathlib.Omega.{arith}
 use borrow.Author.Needs.{needs}
 use Rattle.record.specs.Writing.{misordered}
+use Rattle.record.proofs.Put.{weights-total}
 use Rattle.record.proofs.Refusals.{order-range}
 use Rattle.record_writing.proofs.fit.bit_size.Statement.{statement}
 use Rattle.record_writing.proofs.fit.bit_size.Tie as tie
@@ -47,7 +48,7 @@ returns-3 : tie.Need-returns-3
 returns-3 c = search needs
 
 returns-4 : tie.Need-returns-4
-returns-4 c = rw (c .before .before .encoding .given .1)
+returns-4 c = rw (c .before .before .encoding .given .1) (omega (arith, weights-total (c .before .before .encoding .given .0 .1 .1 .0 .0)))
 
 pub bit-size-spec : {M : Type 1} → statement M
 bit-size-spec =
