@@ -1,5 +1,5 @@
 // Bit fields of a byte slice: bit 0 is the least significant bit of the first byte, and a field's first bit is its least significant.
-// Nothing runs here: specs/ says what is read and what is written, and proofs/ has the laws of both.
+// A field is read in `reading` and replaced in `writing`; proofs/ has the laws of both, such as that what was written is read.
 
 // What reading a field gives.
 pub enum Found {

@@ -2,7 +2,7 @@
 use mathlib.Core.Bool.{true, false, not}
 use mathlib.Core.List.{List}
 use mathlib.Core.Logic.{inl}
-use mathlib.Core.Path.{_≡_, refl, sym, ap, _∙_}
+use mathlib.Core.Path.{_≡_, refl, sym, _∙_}
 use Prim.Native.Nat.{ℕ, _+_, _-_, _*_, _/_, _^_, _≤_, _<_}
 use native.Mathlib.Omega.{arith}
 use borrow.Author.Tests.{le-ltb, eqb-true, eqb-false, ne-eqb}
@@ -16,10 +16,10 @@ use Rattle.kinds.specs.declared.Answer.the-variants.{Done, BadOrder, BytesEnd, 
 use Rattle.record.specs.declared.DeltaEncoding.{DeltaEncoding}
 use Rattle.record.specs.declared.DeltaEncoding.the-variants.{NoOp, Consecutive, Lookback, Conv1}
 use Rattle.record.specs.declared.Reading.{Reading}
-use Rattle.record.specs.Format.{weightFields, fieldsOf, total, bitsOf, weightsAt, logsMalformed}
+use Rattle.record.specs.Format.{weightFields, fieldsOf, totalWidth, bitsOf, weightsAt, logsMalformed}
 use Rattle.record.specs.Reading.{noWeights, given, refused, weightArray, readWeights, readConsecutive, readLookback, readConv1, readVariant, readRecord}
 use Rattle.record.specs.Signed.{lowered}
-use Rattle.record.specs.Widths.{variantBits, orderBits, windowBits, stateBits, shiftBits, greatest, greatestShift}
+use Rattle.record.specs.Widths.{variantBits, orderBits, flagBits, windowBits, stateBits, shiftBits, biasBits, countBits, greatest}
 use Rattle.record.specs.Writing.{flagValue, stored, putRecord, unused, written, misordered, malformed, unfit, tooLong, writingRefusal, writeAnswer, bytesAfter}
 use Rattle.record.proofs.Put.{Stand, bit-copied, read-stand}
 use Rattle.record.proofs.Signed.{raised-lowered}
@@ -68,48 +68,48 @@ module _ (bytes out : List ℕ) where
   consecutive-back : fieldAt bytes 0 variantBits ≡ 1 → Back (readConsecutive bytes variantBits)
   unfolding readConsecutive
   consecutive-back variant =
-      let order = fieldAt bytes 4 3 in
-      let flag = fieldAt bytes 7 1 in
-      by-reading Back bytes 4 3 _ _ (λ _.
+      let order = fieldAt bytes variantBits orderBits in
+      let flag = fieldAt bytes (variantBits + orderBits) flagBits in
+      by-reading Back bytes _ _ _ _ (λ _.
       by-test Back (eqb order 0) _ _ (λ _. refused-back BadRecord malformed-not-done) (λ formed.
-      by-reading Back bytes 7 1 _ _ (λ _ d room.
-      stand-back (Consecutive (record { 0 = order }) (eqb flag 1)) noWeights refl formed (fits orderBits order (field-lt bytes 4 3))
-      (variant, (refl, (flag-back flag (field-lt bytes 7 1), tt))) room)
+      by-reading Back bytes _ _ _ _ (λ _ d room.
+      stand-back (Consecutive (record { 0 = order }) (eqb flag 1)) noWeights refl formed (fits orderBits order (field-lt bytes _ orderBits))
+      (variant, (refl, (flag-back flag (field-lt bytes _ flagBits), tt))) room)
       short)) short
 
   lookback-back : fieldAt bytes 0 variantBits ≡ 2 → Back (readLookback bytes variantBits)
   unfolding readLookback
   lookback-back variant =
-      let w = fieldAt bytes 4 5 in
-      let s = fieldAt bytes 9 4 in
-      let flag = fieldAt bytes 13 1 in
-      by-reading Back bytes 4 5 _ _ (λ _.
-      by-reading Back bytes 9 4 _ _ (λ _.
+      let w = fieldAt bytes variantBits windowBits in
+      let s = fieldAt bytes (variantBits + windowBits) stateBits in
+      let flag = fieldAt bytes (variantBits + windowBits + stateBits) flagBits in
+      by-reading Back bytes _ _ _ _ (λ _.
+      by-reading Back bytes _ _ _ _ (λ _.
       by-test Back (logsMalformed (w + 1) s) _ _ (λ _. refused-back BadRecord malformed-not-done) (λ formed.
-      by-reading Back bytes 13 1 _ _ (λ _ d room.
+      by-reading Back bytes _ _ _ _ (λ _ d room.
       let less : w ≡ w + 1 - 1 = omega arith in
       stand-back (Lookback (w + 1) s (eqb flag 1)) noWeights refl formed
-      (rw (ne-eqb (w + 1) 0 (λ e. omega arith), fits windowBits (w + 1 - 1) (omega (arith, field-lt bytes 4 5)), fits stateBits s (field-lt bytes 9 4)))
-      (variant, (less, (refl, (flag-back flag (field-lt bytes 13 1), tt)))) room)
+      (rw (ne-eqb (w + 1) 0 (λ e. omega arith), fits windowBits (w + 1 - 1) (omega (arith, field-lt bytes variantBits windowBits)), fits stateBits s (field-lt bytes _ stateBits)))
+      (variant, (less, (refl, (flag-back flag (field-lt bytes _ flagBits), tt)))) room)
       short)) short) short
 
   conv1-back : fieldAt bytes 0 variantBits ≡ 3 → Back (readConv1 bytes variantBits)
   unfolding readConv1 readWeights
   conv1-back variant =
-      let q = fieldAt bytes 4 5 in
-      let b = fieldAt bytes 9 64 in
-      let c = fieldAt bytes 73 5 in
+      let q = fieldAt bytes variantBits shiftBits in
+      let b = fieldAt bytes (variantBits + shiftBits) biasBits in
+      let c = fieldAt bytes (variantBits + shiftBits + biasBits) countBits in
       let k = c + 1 in
       let less : c ≡ k - 1 = omega arith in
       let e = Conv1 (record { 0 = q }) (lowered 63 b) (record { 0 = k }) in
-      let bits : weightsAt + total (weightFields k) ≡ bitsOf e = omega arith in
-      by-reading Back bytes 4 5 _ _ (λ _.
-      by-reading Back bytes 9 64 _ _ (λ _.
-      by-reading Back bytes 73 5 _ _ (λ _.
+      let bits : weightsAt + totalWidth (weightFields k) ≡ bitsOf e = omega arith in
+      by-reading Back bytes _ _ _ _ (λ _.
+      by-reading Back bytes _ _ _ _ (λ _.
+      by-reading Back bytes _ _ _ _ (λ _.
       by-test Back (not (orderFits k)) _ _ (λ _. refused-back BadOrder misordered-not-done) (λ ordered.
-      by-test Back (holds bytes weightsAt (total (weightFields k))) _ _ (λ _.
+      by-test Back (holds bytes weightsAt (totalWidth (weightFields k))) _ _ (λ _.
       rw bits (λ d room.
-      stand-back e (weightArray bytes weightsAt k) ordered refl (fits shiftBits q (field-lt bytes 4 5))
+      stand-back e (weightArray bytes weightsAt k) ordered refl (fits shiftBits q (field-lt bytes _ shiftBits))
       (variant, (refl, (sym (raised-lowered 63 b), (less, rw (array-stored bytes weightsAt k) (read-stand bytes weightsAt (weightFields k)))))) room))
       (λ _. short))) short) short) short
 

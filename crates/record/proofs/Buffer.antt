@@ -10,12 +10,12 @@ use Rattle.bits.specs.Fields.{bitAt, withField}
 use Rattle.bits.proofs.Fields.{bit-inside, byte-behind}
 use Rattle.kinds.specs.declared.Answer.the-variants.{Done}
 use Rattle.record.specs.declared.DeltaRecord.{DeltaRecord}
-use Rattle.record.specs.Format.{fieldsOf, total, bitsOf}
+use Rattle.record.specs.Format.{fieldsOf, totalWidth, bitsOf}
 use Rattle.record.specs.Writing.{stored, putFields, putRecord, unused, written, writeAnswer, bytesAfter}
 use Rattle.record.proofs.Put.{put-all-length}
 use Rattle.record.proofs.Refusals.{passed}
 
-byte-behind-all : (bytes : List ℕ) (at : ℕ) (fields numbers : List ℕ) (j : ℕ) → at + total fields ≤ 8 * j → getD (putFields bytes at fields numbers) j 0 ≡ getD bytes j 0
+byte-behind-all : (bytes : List ℕ) (at : ℕ) (fields numbers : List ℕ) (j : ℕ) → at + totalWidth fields ≤ 8 * j → getD (putFields bytes at fields numbers) j 0 ≡ getD bytes j 0
 byte-behind-all bytes at [] numbers j h = refl
 byte-behind-all bytes at (width ∷ fields) [] j h = refl
 byte-behind-all bytes at (width ∷ fields) (n ∷ numbers) j h =

@@ -15,7 +15,7 @@ use Rattle.kinds.specs.declared.Answer.the-variants.{Done, BadOrder, BytesEnd, 
 use Rattle.record.specs.declared.DeltaEncoding.{DeltaEncoding}
 use Rattle.record.specs.declared.DeltaEncoding.the-variants.{NoOp}
 use Rattle.record.specs.declared.Reading.{Reading}
-use Rattle.record.specs.Format.{weightFields, total, logsMalformed}
+use Rattle.record.specs.Format.{weightFields, totalWidth, logsMalformed}
 use Rattle.record.specs.Reading.{noWeights, given, refused, reading, numbersAt, weightArray, readWeights, readConsecutive, readLookback, readConv1, readVariant, readOrder, readRecord}
 use Rattle.record.specs.Records.{Agree}
 use Rattle.record.specs.Signed.{lowered}
@@ -25,7 +25,7 @@ use Rattle.rule.specs.Refusals.{orderFits}
 field-same : (bits at n : ℕ) (xs ys : List ℕ) → Agree bits xs ys → at + n ≤ bits → fieldAt xs at n ≡ fieldAt ys at n
 field-same bits at n xs ys a h = field-agree xs ys at n (λ i k. a .same (at + i) (omega arith))
 
-numbers-same : (bits : ℕ) (xs ys : List ℕ) (at : ℕ) (fields : List ℕ) → Agree bits xs ys → at + total fields ≤ bits → numbersAt xs at fields ≡ numbersAt ys at fields
+numbers-same : (bits : ℕ) (xs ys : List ℕ) (at : ℕ) (fields : List ℕ) → Agree bits xs ys → at + totalWidth fields ≤ bits → numbersAt xs at fields ≡ numbersAt ys at fields
 numbers-same bits xs ys at [] a h = refl
 numbers-same bits xs ys at (width ∷ fields) a h =
     ap₂ (λ (n : ℕ) (ns : List ℕ). n ∷ ns) (field-same bits at width xs ys a (omega arith)) (numbers-same bits xs ys (at + width) fields a (omega arith))
@@ -96,8 +96,8 @@ module _ (xs ys : List ℕ) where
   unfolding readWeights
   follows-weights n at encoding order h =
       let fields = weightFields order in
-      let end = at + total fields in
-      follows-held n at (total fields) (given encoding (weightArray xs at order) end) (given encoding (weightArray ys at order) end) (omega arith)
+      let end = at + totalWidth fields in
+      follows-held n at (totalWidth fields) (given encoding (weightArray xs at order) end) (given encoding (weightArray ys at order) end) (omega arith)
       (λ room.
       (λ d. omega arith, λ bits l a w. ap (λ (ns : List ℕ). given encoding (map (lowered 31) ns ++ replicate (32 - order) (pos 0)) end) (sym (numbers-same bits xs ys at fields a l))))
 

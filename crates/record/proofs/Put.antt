@@ -10,12 +10,12 @@ use native.Mathlib.Decide.{decLt}
 use lib.ListN.{length}
 use Rattle.bits.specs.Fields.{bitOf, bitAt, fieldAt, withField}
 use Rattle.bits.proofs.Fields.{put-length, bit-outside, bit-inside, bit-of-field, field-agree, field-put}
-use Rattle.record.specs.Format.{weightFields, total}
+use Rattle.record.specs.Format.{weightFields, totalWidth}
 use Rattle.record.specs.Reading.{numbersAt}
 use Rattle.record.specs.Widths.{weightBits}
 use Rattle.record.specs.Writing.{putFields}
 
-pub weights-total : (n : ℕ) → total (weightFields n) ≡ weightBits * n
+pub weights-total : (n : ℕ) → totalWidth (weightFields n) ≡ weightBits * n
 weights-total zero = refl
 weights-total (suc n) = omega (arith, weights-total n)
 
@@ -49,7 +49,7 @@ Stand bytes at [] (n ∷ numbers) = ⊥
 Stand bytes at (width ∷ fields) [] = ⊥
 Stand bytes at (width ∷ fields) (n ∷ numbers) = (fieldAt bytes at width ≡ n) × Stand bytes (at + width) fields numbers
 
-pub put-stand : (bytes : List ℕ) (at : ℕ) (fields numbers : List ℕ) → Fit fields numbers → at + total fields ≤ 8 * length bytes →
+pub put-stand : (bytes : List ℕ) (at : ℕ) (fields numbers : List ℕ) → Fit fields numbers → at + totalWidth fields ≤ 8 * length bytes →
     Stand (putFields bytes at fields numbers) at fields numbers
 put-stand bytes at [] [] fit room = tt
 put-stand bytes at [] (n ∷ numbers) fit room = fit
@@ -62,7 +62,7 @@ put-stand bytes at (width ∷ fields) (n ∷ numbers) fit room =
 
 -- they stand too in bytes that agree as far as the fields go
 pub stand-kept : (bytes other : List ℕ) (bits at : ℕ) (fields numbers : List ℕ) → ((from n : ℕ) → from + n ≤ bits → fieldAt other from n ≡ fieldAt bytes from n) →
-    at + total fields ≤ bits → Stand bytes at fields numbers → Stand other at fields numbers
+    at + totalWidth fields ≤ bits → Stand bytes at fields numbers → Stand other at fields numbers
 stand-kept bytes other bits at [] [] same room s = tt
 stand-kept bytes other bits at [] (n ∷ numbers) same room s = s
 stand-kept bytes other bits at (width ∷ fields) [] same room s = s
@@ -80,8 +80,8 @@ pub read-stand : (bytes : List ℕ) (at : ℕ) (fields : List ℕ) → Stand byt
 read-stand bytes at [] = tt
 read-stand bytes at (width ∷ fields) = (refl, read-stand bytes (at + width) fields)
 
-pub bit-copied : (bytes out : List ℕ) (at : ℕ) (fields numbers : List ℕ) → Stand bytes at fields numbers → at + total fields ≤ 8 * length out →
-    (i : ℕ) → at ≤ i → i < at + total fields → bitAt (putFields out at fields numbers) i ≡ bitAt bytes i
+pub bit-copied : (bytes out : List ℕ) (at : ℕ) (fields numbers : List ℕ) → Stand bytes at fields numbers → at + totalWidth fields ≤ 8 * length out →
+    (i : ℕ) → at ≤ i → i < at + totalWidth fields → bitAt (putFields out at fields numbers) i ≡ bitAt bytes i
 bit-copied bytes out at [] numbers s room i low high = absurd (omega arith)
 bit-copied bytes out at (width ∷ fields) [] s room i low high = absurd s
 bit-copied bytes out at (width ∷ fields) (n ∷ numbers) s room i low high =

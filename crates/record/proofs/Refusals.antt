@@ -10,7 +10,7 @@ use Rattle.kinds.specs.declared.Answer.the-variants.{Done, BadOrder, BadShift, 
 use Rattle.kinds.specs.Answers.{numberOf, refuse, whenDone}
 use Rattle.record.specs.declared.DeltaEncoding.{DeltaEncoding}
 use Rattle.record.specs.declared.DeltaEncoding.the-variants.{NoOp, Consecutive, Lookback, Conv1}
-use Rattle.record.specs.Format.{weightFields, total, bitsOf, weightsAt, logsMalformed}
+use Rattle.record.specs.Format.{bitsOf, weightsAt, logsMalformed}
 use Rattle.record.specs.Widths.{windowBits, stateBits, weightBits, greatest, greatestWindowLog}
 use Rattle.record.specs.Writing.{misordered, malformed, logsUnfit, unfit, tooLong, writingRefusal}
 use Rattle.record.proofs.Put.{weights-total}

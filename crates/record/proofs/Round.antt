@@ -15,11 +15,10 @@ use Rattle.kinds.specs.declared.Answer.the-variants.{Done}
 use Rattle.record.specs.declared.DeltaEncoding.{DeltaEncoding}
 use Rattle.record.specs.declared.DeltaEncoding.the-variants.{NoOp, Consecutive, Lookback, Conv1}
 use Rattle.record.specs.declared.DeltaRecord.{DeltaRecord}
-use Rattle.record.specs.Format.{weightFields, fieldsOf, total, bitsOf, weightsAt}
-use Rattle.record.specs.Reading.{given, reading, numbersAt, readWeights, readConsecutive, readLookback, readConv1, readVariant, readRecord}
+use Rattle.record.specs.Format.{weightFields, fieldsOf, totalWidth, bitsOf, weightsAt}
+use Rattle.record.specs.Reading.{given, reading, readWeights, readConsecutive, readLookback, readConv1, readVariant, readRecord}
 use Rattle.record.specs.Records.{keptWeights, kept, Machine}
-use Rattle.record.specs.Signed.{lowered}
-use Rattle.record.specs.Widths.{orderBits, greatest, greatestShift}
+use Rattle.record.specs.Widths.{variantBits, orderBits, flagBits, windowBits, stateBits, shiftBits, biasBits, countBits, greatest, greatestShift}
 use Rattle.record.specs.Writing.{flagValue, stored, putRecord, unused, written, writeAnswer, bytesAfter}
 use Rattle.record.proofs.Put.{put-all-length, Fit, Stand, put-stand, stand-kept, stand-read}
 use Rattle.record.proofs.Refusals.{Passed, passed, order-range, window-fits, enough-room}
@@ -79,26 +78,26 @@ read-written : (encoding : DeltaEncoding) (weights : List ℤ) (bytes : List ℕ
 unfolding readVariant readConsecutive readLookback readConv1 readWeights reading
 read-written NoOp ws bytes p m =
     let s = written-stand NoOp ws bytes p m in
-    rw (held NoOp ws bytes 0 4 p (omega arith), s .0)
+    rw (held NoOp ws bytes 0 variantBits p (omega arith), s .0)
 read-written (Consecutive order flag) ws bytes p m =
     let e = Consecutive order flag in
     let s = written-stand e ws bytes p m in
-    rw (held e ws bytes 0 4 p (omega arith), s .0, held e ws bytes 4 3 p (omega arith), s .1 .0, p .formed, held e ws bytes 7 1 p (omega arith), s .1 .1 .0, flag-read flag)
+    rw (held e ws bytes 0 variantBits p (omega arith), s .0, held e ws bytes variantBits orderBits p (omega arith), s .1 .0, p .formed, held e ws bytes (variantBits + orderBits) flagBits p (omega arith), s .1 .1 .0, flag-read flag)
 read-written (Lookback window state flag) ws bytes p m =
     let e = Lookback window state flag in
     let s = written-stand e ws bytes p m in
     let fits = window-fits window state (p .fitting) in
     let back : window - 1 + 1 ≡ window = omega arith in
     rw (
-      held e ws bytes 0 4 p (omega arith),
+      held e ws bytes 0 variantBits p (omega arith),
       s .0,
-      held e ws bytes 4 5 p (omega arith),
+      held e ws bytes variantBits windowBits p (omega arith),
       s .1 .0,
       back,
-      held e ws bytes 9 4 p (omega arith),
+      held e ws bytes (variantBits + windowBits) stateBits p (omega arith),
       s .1 .1 .0,
       p .formed,
-      held e ws bytes 13 1 p (omega arith),
+      held e ws bytes (variantBits + windowBits + stateBits) flagBits p (omega arith),
       s .1 .1 .1 .0,
       flag-read flag,
     )
@@ -108,20 +107,20 @@ read-written (Conv1 shift bias order) ws bytes p m =
     let s = written-stand e ws bytes p m in
     let range = order-range k (p .ordered) in
     let back : k - 1 + 1 ≡ k = omega arith in
-    let bits : weightsAt + total (weightFields k) ≡ bitsOf e = omega arith in
+    let bits : weightsAt + totalWidth (weightFields k) ≡ bitsOf e = omega arith in
     let numbers = stand-read (written e ws bytes) weightsAt (weightFields k) _ (s .1 .1 .1 .1) in
     rw (
-      held e ws bytes 0 4 p (omega arith),
+      held e ws bytes 0 variantBits p (omega arith),
       s .0,
-      held e ws bytes 4 5 p (omega arith),
+      held e ws bytes variantBits shiftBits p (omega arith),
       s .1 .0,
-      held e ws bytes 9 64 p (omega arith),
+      held e ws bytes (variantBits + shiftBits) biasBits p (omega arith),
       s .1 .1 .0,
-      held e ws bytes 73 5 p (omega arith),
+      held e ws bytes (variantBits + shiftBits + biasBits) countBits p (omega arith),
       s .1 .1 .1 .0,
       back,
       p .ordered,
-      held e ws bytes weightsAt (total (weightFields k)) p (omega arith),
+      held e ws bytes weightsAt (totalWidth (weightFields k)) p (omega arith),
       lowered-raised 63 bias (m .biasFits),
       numbers,
       stored-read k ws (m .weightFits),

@@ -13,7 +13,7 @@ use Rattle.kinds.specs.declared.Answer.{Answer}
 use Rattle.kinds.specs.declared.Answer.the-variants.{Done, BadOrder, BytesEnd, UnknownVariant, BadRecord}
 use Rattle.record.specs.declared.DeltaEncoding.{DeltaEncoding}
 use Rattle.record.specs.declared.Reading.{Reading}
-use Rattle.record.specs.Format.{weightFields, total, logsMalformed}
+use Rattle.record.specs.Format.{weightFields, totalWidth, logsMalformed}
 use Rattle.record.specs.Reading.{refused, readWeights, readConsecutive, readLookback, readConv1, readVariant, readOrder, readRecord}
 use Rattle.record.specs.Widths.{variantBits, orderBits, windowBits, stateBits, shiftBits, biasBits, countBits}
 use Rattle.record.proofs.Walk.{by-test, by-reading, misordered-not-done}
@@ -61,7 +61,7 @@ module _ (bytes : List ℕ) where
 
   weights-sound : (at : ℕ) (encoding : DeltaEncoding) (order : ℕ) → P (readWeights bytes at encoding order)
   unfolding readWeights
-  weights-sound at encoding order = by-test P (holds bytes at (total (weightFields order))) _ _ (given-sound at (total (weightFields order)) _ refl refl) (λ _. short)
+  weights-sound at encoding order = by-test P (holds bytes at (totalWidth (weightFields order))) _ _ (given-sound at (totalWidth (weightFields order)) _ refl refl) (λ _. short)
 
   conv1-sound : (at : ℕ) → P (readConv1 bytes at)
   unfolding readConv1

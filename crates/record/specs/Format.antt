@@ -30,16 +30,16 @@ fieldsOf (Lookback window state flag) = variantBits ∷ lookbackFields
 fieldsOf (Conv1 shift bias order) = variantBits ∷ conv1Fields ++ weightFields (order .0)
 
 -- how many bits fields take
-abbrev pub total : List ℕ → ℕ
-total [] = 0
-total (width ∷ fields) = width + total fields
+abbrev pub totalWidth : List ℕ → ℕ
+totalWidth [] = 0
+totalWidth (width ∷ fields) = width + totalWidth fields
 
 abbrev pub bitsOf : DeltaEncoding → ℕ
-bitsOf encoding = total (fieldsOf encoding)
+bitsOf encoding = totalWidth (fieldsOf encoding)
 
 -- the bit place of a Conv1's first weight
 abbrev pub weightsAt : ℕ
-weightsAt = total (variantBits ∷ conv1Fields)
+weightsAt = totalWidth (variantBits ∷ conv1Fields)
 
 -- what no Lookback may say: a window above the limit, or a state above the window, both by their logs
 abbrev pub logsMalformed : ℕ → ℕ → Bool

@@ -11,7 +11,7 @@ use Rattle.kinds.specs.declared.Answer.the-variants.{Done, BadOrder, BytesEnd, 
 use Rattle.record.specs.declared.DeltaEncoding.{DeltaEncoding}
 use Rattle.record.specs.declared.DeltaEncoding.the-variants.{NoOp, Consecutive, Lookback, Conv1}
 use Rattle.record.specs.declared.Reading.{Reading}
-use Rattle.record.specs.Format.{consecutiveFields, lookbackFields, conv1Fields, weightFields, total, logsMalformed}
+use Rattle.record.specs.Format.{consecutiveFields, lookbackFields, conv1Fields, weightFields, totalWidth, logsMalformed}
 use Rattle.record.specs.Signed.{lowered}
 use Rattle.record.specs.Widths.{variantBits, orderBits}
 use Rattle.rule.specs.Refusals.{orderFits}
@@ -66,8 +66,8 @@ weightArray bytes at order = map (lowered 31) (numbersAt bytes at (weightFields 
 -- the weights, the last fields of an encoding whose other fields are read; 7 where one of them is missing
 unfoldable pub readWeights : List ℕ → ℕ → DeltaEncoding → ℕ → Reading
 readWeights bytes at encoding order =
-    cond (holds bytes at (total (weightFields order)))
-    (given encoding (weightArray bytes at order) (at + total (weightFields order)))
+    cond (holds bytes at (totalWidth (weightFields order)))
+    (given encoding (weightArray bytes at order) (at + totalWidth (weightFields order)))
     (refused BytesEnd)
 
 -- the order is stored less 1; above 32 it is 1, which five bits can't hold

@@ -1,4 +1,4 @@
-// The delta record by value, its field widths and its limits; specs/ says how it lies in bits.
+// The delta record by value, its field widths and limits, and what reading and writing it answer; specs/ says how it lies in bits.
 ghost use mathlib.Core.Path.{_≡_};
 ghost use Rattle.record.specs.Reading.{given, refused};
 use kinds::Answer;

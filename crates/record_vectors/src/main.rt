@@ -296,9 +296,9 @@ fn every_two_bytes(variants: bool) {
     say(b"\n");
 }
 
-fn consecutive(order: usize, flag: bool) -> DeltaEncoding {
+fn consecutive(order: Order, flag: bool) -> DeltaEncoding {
     DeltaEncoding::Consecutive {
-        order: Order(order),
+        order,
         secondary_uses_delta: flag,
     }
 }
@@ -311,11 +311,11 @@ fn lookback(window: u32, state: u32, flag: bool) -> DeltaEncoding {
     }
 }
 
-fn conv1(shift: u32, bias: i64, order: usize) -> DeltaEncoding {
+fn conv1(shift: Shift, bias: i64, order: Order) -> DeltaEncoding {
     DeltaEncoding::Conv1 {
-        quantization: Shift(shift),
+        quantization: shift,
         bias,
-        order: Order(order),
+        order,
     }
 }
 
@@ -336,14 +336,14 @@ fn write_nothing() {
 
 fn write_consecutives() {
     let none = [0i32; 32];
-    write(consecutive(0, false), none, 0);
-    write(consecutive(0, true), none, 1);
-    write(consecutive(1, false), none, 0);
-    write(consecutive(1, false), none, 1);
-    write(consecutive(3, true), none, 2);
-    write(consecutive(7, true), none, 1);
-    write(consecutive(8, false), none, 0);
-    write(consecutive(18446744073709551615, false), none, 1);
+    write(consecutive(Order(0), false), none, 0);
+    write(consecutive(Order(0), true), none, 1);
+    write(consecutive(Order(1), false), none, 0);
+    write(consecutive(Order(1), false), none, 1);
+    write(consecutive(Order(3), true), none, 2);
+    write(consecutive(Order(7), true), none, 1);
+    write(consecutive(Order(8), false), none, 0);
+    write(consecutive(Order(18446744073709551615), false), none, 1);
 }
 
 fn write_small_lookbacks() {
@@ -368,11 +368,11 @@ fn write_large_lookbacks() {
 
 fn refuse_conv1s() {
     let one = weights(1, 5, -5);
-    write(conv1(0, 0, 0), one, 14);
-    write(conv1(32, 0, 33), one, 0);
-    write(conv1(32, 0, 1), one, 0);
-    write(conv1(4294967295, 0, 1), one, 14);
-    write(conv1(0, 0, 1), one, 13);
+    write(conv1(Shift(0), 0, Order(0)), one, 14);
+    write(conv1(Shift(32), 0, Order(33)), one, 0);
+    write(conv1(Shift(32), 0, Order(1)), one, 0);
+    write(conv1(Shift(4294967295), 0, Order(1)), one, 14);
+    write(conv1(Shift(0), 0, Order(1)), one, 13);
 }
 
 fn write_conv1s() {
@@ -380,13 +380,29 @@ fn write_conv1s() {
     let two = weights(-1, 2, 77);
     let least = [-2147483648i32; 32];
     let greatest = [2147483647i32; 32];
-    write(conv1(0, 0, 1), one, 14);
-    write(conv1(0, 0, 1), one, 16);
-    write(conv1(31, -1, 2), two, 18);
-    write(conv1(31, -9223372036854775808, 32), least, 137);
-    write(conv1(31, -9223372036854775808, 32), least, 138);
-    write(conv1(31, 9223372036854775807, 32), greatest, 140);
-    write(conv1(5, 1, 18446744073709551615), greatest, 140);
+    write(conv1(Shift(0), 0, Order(1)), one, 14);
+    write(conv1(Shift(0), 0, Order(1)), one, 16);
+    write(conv1(Shift(31), -1, Order(2)), two, 18);
+    write(
+        conv1(Shift(31), -9223372036854775808, Order(32)),
+        least,
+        137,
+    );
+    write(
+        conv1(Shift(31), -9223372036854775808, Order(32)),
+        least,
+        138,
+    );
+    write(
+        conv1(Shift(31), 9223372036854775807, Order(32)),
+        greatest,
+        140,
+    );
+    write(
+        conv1(Shift(5), 1, Order(18446744073709551615)),
+        greatest,
+        140,
+    );
 }
 
 fn read_small() {
@@ -437,11 +453,14 @@ fn read_old() {
 fn truncations() {
     let none = [0i32; 32];
     truncate(DeltaEncoding::NoOp, none);
-    truncate(consecutive(7, true), none);
+    truncate(consecutive(Order(7), true), none);
     truncate(lookback(24, 15, true), none);
-    truncate(conv1(0, 0, 1), none);
-    truncate(conv1(31, -1, 2), weights(-1, 2, 0));
-    truncate(conv1(31, -9223372036854775808, 32), [-2147483648i32; 32]);
+    truncate(conv1(Shift(0), 0, Order(1)), none);
+    truncate(conv1(Shift(31), -1, Order(2)), weights(-1, 2, 0));
+    truncate(
+        conv1(Shift(31), -9223372036854775808, Order(32)),
+        [-2147483648i32; 32],
+    );
 }
 
 fn main() {

@@ -13,7 +13,7 @@ use mir.Syntax.{w32}
 use mir.Val.{SFits, toZ, ofZ}
 use Rattle.bits.specs.Fields.{fieldAt, holds}
 use Rattle.bits.proofs.Fields.{absent, present, field-lt}
-use Rattle.record.specs.Format.{weightFields, total, weightsAt}
+use Rattle.record.specs.Format.{weightFields, totalWidth, weightsAt}
 use Rattle.record.specs.Reading.{given, weightArray, readWeights}
 use Rattle.record.specs.Signed.{lowered}
 use Rattle.record.specs.Widths.{weightBits}
@@ -71,7 +71,7 @@ returns c =
     let a = c .before .before .before .before .before .before .before .args in
     let short = absent (a .bytes .now) (place (l .i)) 32 (omega arith) (sym (c .before .before .before .read-uint .ensures) ∙ c .before .enum-told .given .1) in
     let k = a .order .0 in
-    rw (lt-leb (weightsAt + total (weightFields k)) (8 * length (a .bytes .now)) (omega (arith, weights-total k, leb-false (place (l .i) + 32) (8 * length (a .bytes .now)) short)))
+    rw (lt-leb (weightsAt + totalWidth (weightFields k)) (8 * length (a .bytes .now)) (omega (arith, weights-total k, leb-false (place (l .i) + 32) (8 * length (a .bytes .now)) short)))
     (c .refuse .ensures)
 
 weight-from-latent-ordered-requires : tie.Need-weight-from-latent-ordered-requires Inv-loop μ-loop
@@ -123,8 +123,8 @@ returns-2 c =
     let a = c .before .before .before .before .args in
     let k = a .order .0 in
     let e : l .i ≡ k = omega arith in
-    let bits : place k ≡ weightsAt + total (weightFields k) = omega (arith, weights-total k) in
-    rw (le-leb (weightsAt + total (weightFields k)) (8 * length (a .bytes .now)) (omega (arith, weights-total k)))
+    let bits : place k ≡ weightsAt + totalWidth (weightFields k) = omega (arith, weights-total k) in
+    rw (le-leb (weightsAt + totalWidth (weightFields k)) (8 * length (a .bytes .now)) (omega (arith, weights-total k)))
     (c .give .ensures
     ∙ ap (λ (ws : List ℤ). given (a .encoding) ws (place k)) (l .inv .2 ∙ ap (weightArray (a .bytes .now) weightsAt) e)
     ∙ ap (given (a .encoding) (weightArray (a .bytes .now) weightsAt k)) bits)
