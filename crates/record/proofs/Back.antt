@@ -17,7 +17,7 @@ use Rattle.record.specs.declared.DeltaEncoding.{DeltaEncoding}
 use Rattle.record.specs.declared.DeltaEncoding.the-variants.{NoOp, Consecutive, Lookback, Conv1}
 use Rattle.record.specs.declared.Reading.{Reading}
 use Rattle.record.specs.Format.{weightFields, fieldsOf, totalWidth, bitsOf, weightsAt, logsMalformed}
-use Rattle.record.specs.Reading.{noWeights, given, refused, weightArray, readWeights, readConsecutive, readLookback, readConv1, readVariant, readRecord}
+use Rattle.record.specs.Reading.{inArray, noWeights, given, refused, weightsIn, readWeights, readConsecutive, readLookback, readConv1, readVariant, readRecord}
 use Rattle.record.specs.Signed.{lowered}
 use Rattle.record.specs.Widths.{variantBits, orderBits, flagBits, windowBits, stateBits, shiftBits, biasBits, countBits, greatest}
 use Rattle.record.specs.Writing.{flagValue, stored, putRecord, unused, written, misordered, malformed, unfit, tooLong, writingRefusal, writeAnswer, bytesAfter}
@@ -109,7 +109,7 @@ module _ (bytes out : List ℕ) where
       by-test Back (not (orderFits k)) _ _ (λ _. refused-back BadOrder misordered-not-done) (λ ordered.
       by-test Back (holds bytes weightsAt (totalWidth (weightFields k))) _ _ (λ _.
       rw bits (λ d room.
-      stand-back e (weightArray bytes weightsAt k) ordered refl (fits shiftBits q (field-lt bytes _ shiftBits))
+      stand-back e (inArray (weightsIn bytes weightsAt k)) ordered refl (fits shiftBits q (field-lt bytes _ shiftBits))
       (variant, (refl, (sym (raised-lowered 63 b), (less, rw (array-stored bytes weightsAt k) (read-stand bytes weightsAt (weightFields k)))))) room))
       (λ _. short))) short) short) short
 

@@ -2,12 +2,12 @@
 use mathlib.Core.Bool.{Bool, true, false, cond, not}
 use mathlib.Core.List.{List, [], _∷_, _++_, map}
 use mathlib.Core.Path.{_≡_, refl, sym, ap, ap₂, _∙_}
-use Prim.Native.Nat.{ℕ, _+_, _-_, _*_, _/_, _%_, _≤_, _<_}
+use Prim.Native.Nat.{ℕ, _+_, _*_, _/_, _%_, _≤_, _<_}
 use native.Mathlib.Omega.{arith}
 use borrow.Author.Tests.{le-leb, leb-true}
 use lib.Dec.{eqb}
-use lib.IntN.{ℤ, pos}
-use lib.ListN.{length, replicate, length-append, List·getD-append}
+use lib.IntN.{ℤ}
+use lib.ListN.{length, length-append, List·getD-append}
 use Rattle.bits.specs.Fields.{bitAt, bitOf, fieldAt, holds}
 use Rattle.bits.proofs.Fields.{field-agree}
 use Rattle.kinds.specs.declared.Answer.{Answer}
@@ -16,7 +16,7 @@ use Rattle.record.specs.declared.DeltaEncoding.{DeltaEncoding}
 use Rattle.record.specs.declared.DeltaEncoding.the-variants.{NoOp}
 use Rattle.record.specs.declared.Reading.{Reading}
 use Rattle.record.specs.Format.{weightFields, totalWidth, logsMalformed}
-use Rattle.record.specs.Reading.{noWeights, given, refused, reading, numbersAt, weightArray, readWeights, readConsecutive, readLookback, readConv1, readVariant, readOrder, readRecord}
+use Rattle.record.specs.Reading.{inArray, noWeights, given, refused, reading, numbersAt, weightsIn, readWeights, readConsecutive, readLookback, readConv1, readVariant, readOrder, readRecord}
 use Rattle.record.specs.Records.{Agree}
 use Rattle.record.specs.Signed.{lowered}
 use Rattle.record.proofs.Walk.{end-not-done, unknown-not-done, malformed-not-done, misordered-not-done}
@@ -60,21 +60,20 @@ module _ (xs ys : List ℕ) where
   follows-test n true r s r′ s′ f g = f
   follows-test n false r s r′ s′ f g = g
 
-  -- fields of which one answer depends, and which are handed on
+  -- bits that must be there, and what is made of them
   follows-held : (n at width : ℕ) (r s : Reading) → n ≤ at + width →
-      (at + width ≤ 8 * length xs → (r .answer ≡ Done → at + width ≤ r .bits) × ((bits : ℕ) → at + width ≤ bits → Agree bits xs ys → Within bits xs r → s ≡ r)) →
+      (r .answer ≡ Done → at + width ≤ r .bits) → ((bits : ℕ) → at + width ≤ bits → Agree bits xs ys → Within bits xs r → s ≡ r) →
       Follows xs ys n (cond (holds xs at width) r (refused BytesEnd)) (cond (holds ys at width) s (refused BytesEnd))
-  follows-held n at width r s h f = go (holds xs at width) refl
+  follows-held n at width r s h reached alike = go (holds xs at width) refl
     where
       go : (t : Bool) → holds xs at width ≡ t → Follows xs ys n (cond t r (refused BytesEnd)) (cond (holds ys at width) s (refused BytesEnd))
       go true e =
           let room = leb-true (at + width) (8 * length xs) e in
-          let g = f room in
           record {
-            reached = λ d. omega (arith, g .0 d);
+            reached = λ d. omega (arith, reached d);
             same = λ bits a w.
-                let l : at + width ≤ bits = inside bits (at + width) xs r room (g .0) w in
-                rw (le-leb (at + width) (8 * length ys) (omega (arith, a .enough))) (g .1 bits l a w);
+                let l : at + width ≤ bits = inside bits (at + width) xs r room reached w in
+                rw (le-leb (at + width) (8 * length ys) (omega (arith, a .enough))) (alike bits l a w);
           }
       go false e =
           record {
@@ -89,17 +88,17 @@ module _ (xs ys : List ℕ) where
   follows-reading n at width fields next next′ h f =
       let v = fieldAt xs at width in
       follows-held n at width (next v (at + width) fields) (next′ (fieldAt ys at width) (at + width) fields) h
-      (λ room.
-      (f v .reached, λ bits l a w. ap (λ (x : ℕ). next′ x (at + width) fields) (sym (field-same bits at width xs ys a l)) ∙ f v .same bits a w))
+      (f v .reached)
+      (λ bits l a w. ap (λ (x : ℕ). next′ x (at + width) fields) (sym (field-same bits at width xs ys a l)) ∙ f v .same bits a w)
 
   follows-weights : (n at : ℕ) (encoding : DeltaEncoding) (order : ℕ) → n ≤ at → Follows xs ys n (readWeights xs at encoding order) (readWeights ys at encoding order)
   unfolding readWeights
   follows-weights n at encoding order h =
       let fields = weightFields order in
       let end = at + totalWidth fields in
-      follows-held n at (totalWidth fields) (given encoding (weightArray xs at order) end) (given encoding (weightArray ys at order) end) (omega arith)
-      (λ room.
-      (λ d. omega arith, λ bits l a w. ap (λ (ns : List ℕ). given encoding (map (lowered 31) ns ++ replicate (32 - order) (pos 0)) end) (sym (numbers-same bits xs ys at fields a l))))
+      follows-held n at (totalWidth fields) (given encoding (inArray (weightsIn xs at order)) end) (given encoding (inArray (weightsIn ys at order)) end) (omega arith)
+      (λ d. omega arith)
+      (λ bits l a w. ap (λ (ns : List ℕ). given encoding (inArray (map (lowered 31) ns)) end) (sym (numbers-same bits xs ys at fields a l)))
 
   follows-consecutive : (at : ℕ) → Follows xs ys at (readConsecutive xs at) (readConsecutive ys at)
   unfolding readConsecutive

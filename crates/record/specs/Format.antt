@@ -8,14 +8,14 @@ use Rattle.record.specs.declared.DeltaEncoding.{DeltaEncoding}
 use Rattle.record.specs.declared.DeltaEncoding.the-variants.{NoOp, Consecutive, Lookback, Conv1}
 use Rattle.record.specs.Widths.{variantBits, orderBits, flagBits, windowBits, stateBits, shiftBits, biasBits, countBits, weightBits, greatestWindowLog}
 
--- behind the variant, with which every record begins
+-- what follows the variant, with which every record begins
 abbrev pub consecutiveFields : List ℕ
 consecutiveFields = orderBits ∷ flagBits ∷ []
 
 abbrev pub lookbackFields : List ℕ
 lookbackFields = windowBits ∷ stateBits ∷ flagBits ∷ []
 
--- a Conv1's up to its weights; the count says how many of them follow
+-- up to the weights; the count says how many of them follow
 abbrev pub conv1Fields : List ℕ
 conv1Fields = shiftBits ∷ biasBits ∷ countBits ∷ []
 

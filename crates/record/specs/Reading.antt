@@ -4,7 +4,7 @@ use mathlib.Core.List.{List, [], _∷_, _++_, map}
 use Prim.Native.Nat.{ℕ, _+_, _-_}
 use lib.Dec.{eqb}
 use lib.IntN.{ℤ, pos}
-use lib.ListN.{replicate}
+use lib.ListN.{length, replicate}
 use Rattle.bits.specs.Fields.{fieldAt, holds}
 use Rattle.kinds.specs.declared.Answer.{Answer}
 use Rattle.kinds.specs.declared.Answer.the-variants.{Done, BadOrder, BytesEnd, UnknownVariant, BadRecord}
@@ -16,8 +16,12 @@ use Rattle.record.specs.Signed.{lowered}
 use Rattle.record.specs.Widths.{variantBits, orderBits}
 use Rattle.rule.specs.Refusals.{orderFits}
 
+-- weights in the record's array of 32, whose other places are 0
+abbrev pub inArray : List ℤ → List ℤ
+inArray weights = weights ++ replicate (32 - length weights) (pos 0)
+
 abbrev pub noWeights : List ℤ
-noWeights = replicate 32 (pos 0)
+noWeights = inArray []
 
 abbrev pub given : DeltaEncoding → List ℤ → ℕ → Reading
 given encoding weights bits = record { answer = Done; delta = record { encoding = encoding; weights = weights }; bits = bits }
@@ -31,7 +35,7 @@ abbrev pub refusing : Bool → Answer → Reading → Reading
 refusing test answer later = cond test (refused answer) later
 
 -- the first of the fields, at a bit place; its number, the place behind it and the other fields are handed on.
--- 7 where the bytes end before or inside it
+-- 7 where the bytes end before or inside it, as where no field is left
 unfoldable pub reading : List ℕ → ℕ → List ℕ → (ℕ → ℕ → List ℕ → Reading) → Reading
 reading bytes at [] next = refused BytesEnd
 reading bytes at (width ∷ fields) next =
@@ -59,15 +63,14 @@ abbrev pub numbersAt : List ℕ → ℕ → List ℕ → List ℕ
 numbersAt bytes at [] = []
 numbersAt bytes at (width ∷ fields) = fieldAt bytes at width ∷ numbersAt bytes (at + width) fields
 
--- the weights in an array of 32, whose places past the order are 0
-abbrev pub weightArray : List ℕ → ℕ → ℕ → List ℤ
-weightArray bytes at order = map (lowered 31) (numbersAt bytes at (weightFields order)) ++ replicate (32 - order) (pos 0)
+abbrev pub weightsIn : List ℕ → ℕ → ℕ → List ℤ
+weightsIn bytes at order = map (lowered 31) (numbersAt bytes at (weightFields order))
 
 -- the weights, the last fields of an encoding whose other fields are read; 7 where one of them is missing
 unfoldable pub readWeights : List ℕ → ℕ → DeltaEncoding → ℕ → Reading
 readWeights bytes at encoding order =
     cond (holds bytes at (totalWidth (weightFields order)))
-    (given encoding (weightArray bytes at order) (at + totalWidth (weightFields order)))
+    (given encoding (inArray (weightsIn bytes at order)) (at + totalWidth (weightFields order)))
     (refused BytesEnd)
 
 -- the order is stored less 1; above 32 it is 1, which five bits can't hold

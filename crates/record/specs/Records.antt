@@ -1,22 +1,22 @@
 -- What the theorems on the record say of a record's value.
-use mathlib.Core.List.{List, _++_}
-use Prim.Native.Nat.{ℕ, _-_, _*_, _^_, _≤_, _<_}
+use mathlib.Core.List.{List}
+use Prim.Native.Nat.{ℕ, _*_, _^_, _≤_, _<_}
 use mathlib.Core.Path.{_≡_}
 use lib.IntN.{ℤ, pos}
-use lib.ListN.{length, getD, take, replicate}
+use lib.ListN.{length, getD, take}
 use lib.Signed.{mag}
 use Rattle.bits.specs.Fields.{bitAt}
 use Rattle.record.specs.declared.DeltaEncoding.{DeltaEncoding}
 use Rattle.record.specs.declared.DeltaEncoding.the-variants.{NoOp, Consecutive, Lookback, Conv1}
 use Rattle.record.specs.declared.DeltaRecord.{DeltaRecord}
-use Rattle.record.specs.Reading.{noWeights}
+use Rattle.record.specs.Reading.{inArray, noWeights}
 
 -- the weights that the format keeps: the first `order` of Conv1's, then 0; none of any other record
 abbrev pub keptWeights : DeltaEncoding → List ℤ → List ℤ
 keptWeights NoOp weights = noWeights
 keptWeights (Consecutive order flag) weights = noWeights
 keptWeights (Lookback window state flag) weights = noWeights
-keptWeights (Conv1 shift bias order) weights = take (order .0) weights ++ replicate (32 - order .0) (pos 0)
+keptWeights (Conv1 shift bias order) weights = inArray (take (order .0) weights)
 
 abbrev pub kept : DeltaRecord → DeltaRecord
 kept delta = record { encoding = delta .encoding; weights = keptWeights (delta .encoding) (delta .weights) }

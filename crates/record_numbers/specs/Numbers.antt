@@ -1,14 +1,13 @@
 -- A record as plain numbers, and plain numbers as a record.
 use mathlib.Core.Bool.{Bool, false, cond}
-use mathlib.Core.List.{List, _++_}
-use Prim.Native.Nat.{ℕ, _-_}
+use mathlib.Core.List.{List}
+use Prim.Native.Nat.{ℕ}
 use lib.Dec.{eqb}
 use lib.IntN.{ℤ, pos}
-use lib.ListN.{length, replicate}
 use Rattle.record.specs.declared.DeltaEncoding.{DeltaEncoding}
 use Rattle.record.specs.declared.DeltaEncoding.the-variants.{NoOp, Consecutive, Lookback, Conv1}
 use Rattle.record.specs.declared.DeltaRecord.{DeltaRecord}
-use Rattle.record.specs.Reading.{noWeights}
+use Rattle.record.specs.Reading.{inArray, noWeights}
 use Rattle.record_numbers.specs.declared.numbers.Numbers.{Numbers}
 
 -- variant, order, window log, state log, flag, shift, bias
@@ -39,9 +38,9 @@ encodingOf n =
     (cond (eqb (n .variant) 2) (Lookback (n .«window_n_log») (n .«state_n_log») (n .«secondary_uses_delta»))
     (Conv1 (n .quantization) (n .bias) (n .order))))
 
--- Conv1's weights in an array of 32; no other variant has any
+-- Conv1's weights in the record's array; no other variant has any
 abbrev pub weightsOf : ℕ → List ℤ → List ℤ
-weightsOf variant weights = cond (eqb variant 3) (weights ++ replicate (32 - length weights) (pos 0)) noWeights
+weightsOf variant weights = cond (eqb variant 3) (inArray weights) noWeights
 
 abbrev pub recordOf : Numbers → List ℤ → DeltaRecord
 recordOf n weights = record { encoding = encodingOf n; weights = weightsOf (n .variant) weights }

@@ -14,7 +14,7 @@ use mir.Val.{SFits, toZ, ofZ}
 use Rattle.bits.specs.Fields.{fieldAt, holds}
 use Rattle.bits.proofs.Fields.{absent, present, field-lt}
 use Rattle.record.specs.Format.{weightFields, totalWidth, weightsAt}
-use Rattle.record.specs.Reading.{given, weightArray, readWeights}
+use Rattle.record.specs.Reading.{inArray, given, weightsIn, readWeights}
 use Rattle.record.specs.Signed.{lowered}
 use Rattle.record.specs.Widths.{weightBits}
 use Rattle.record.proofs.Put.{weights-total}
@@ -29,7 +29,7 @@ place i = weightsAt + weightBits * i
 
 abbrev Inv-loop : tie.InvT-loop
 Inv-loop bytes encoding k weights₀ i₀ weights i =
-    (i ≤ k) × (place i ≤ 8 * length bytes) × (weights ≡ weightArray bytes weightsAt i)
+    (i ≤ k) × (place i ≤ 8 * length bytes) × (weights ≡ inArray (weightsIn bytes weightsAt i))
 
 abbrev μ-loop : tie.MeasureT-loop
 μ-loop bytes encoding k weights₀ i₀ weights i = k - i
@@ -126,8 +126,8 @@ returns-2 c =
     let bits : place k ≡ weightsAt + totalWidth (weightFields k) = omega (arith, weights-total k) in
     rw (le-leb (weightsAt + totalWidth (weightFields k)) (8 * length (a .bytes .now)) (omega (arith, weights-total k)))
     (c .give .ensures
-    ∙ ap (λ (ws : List ℤ). given (a .encoding) ws (place k)) (l .inv .2 ∙ ap (weightArray (a .bytes .now) weightsAt) e)
-    ∙ ap (given (a .encoding) (weightArray (a .bytes .now) weightsAt k)) bits)
+    ∙ ap (λ (ws : List ℤ). given (a .encoding) ws (place k)) (l .inv .2 ∙ ap (λ (n : ℕ). inArray (weightsIn (a .bytes .now) weightsAt n)) e)
+    ∙ ap (given (a .encoding) (inArray (weightsIn (a .bytes .now) weightsAt k))) bits)
 
 pub read-weights-spec : {M : Type 1} → statement M
 read-weights-spec =
