@@ -1,2 +1,2 @@
-// Nothing runs here: specs/ says what a call of the exported functions leaves, and proofs/ how an inner function's promise is handed on.
-// The functions stand in boundary_8, boundary_16, boundary_32 and boundary_record.
+// Nothing runs here: specs/ has the configuration that plain numbers stand for, and proofs/ that a caller's sequence of exported calls gives
+// the trace back.

@@ -64,7 +64,7 @@ all-pass true true false d h = absurd (false≢true h)
 all-pass true false c d h = absurd (false≢true h)
 all-pass false b c d h = absurd (false≢true h)
 
-entire-length : (n l : ℕ) → eqb (l % n) 0 ≡ true → l ≡ n * (l / n)
+pub entire-length : (n l : ℕ) → eqb (l % n) 0 ≡ true → l ≡ n * (l / n)
 entire-length n l h = omega (arith, eqb-true (l % n) 0 h, div-add-mod l n)
 
 pub layout-passed : (W order shift weights state samples : ℕ) → isDone (layoutRefusal W order shift weights state samples) ≡ true → Laid W order weights state samples
@@ -217,3 +217,7 @@ unfolding decodeBytes decodeLaid earlyBy
 ways-agree-in-bytes W c torn state piece General fits = refl
 ways-agree-in-bytes W c torn state piece OrderSix fits =
     rw (eq-eqb (c .order) 6 fits, ways-agree W c OrderSix fits (samplesIn W state) (samplesIn W piece))
+
+pub ways-agree-in-bytes-numbered : (W : ℕ) (c : Config) (torn : Bool) (state piece : List ℕ) (way : Way) → Fits c way
+    → decoding.numbered (decodeBytes way W c torn state piece) ≡ decoding.numbered (decodeBytes General W c torn state piece)
+ways-agree-in-bytes-numbered W c torn state piece way fits = ap decoding.numbered (ways-agree-in-bytes W c torn state piece way fits)

@@ -1,3 +1,4 @@
 pub mod Bytes
 pub mod Lengths
 pub mod Calls
+pub mod Pieces
