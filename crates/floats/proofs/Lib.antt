@@ -1,4 +1,4 @@
-pub mod Compared
+pub mod Patterns
 pub mod Unpacking
 pub mod Exponents
 pub mod WholeParts

@@ -6,22 +6,18 @@ use native.Mathlib.Nat.{mod-lt, lt-irrefl}
 use native.Mathlib.Omega.{arith}
 use lib.Dec.{T, leb, eqb, eqb→eq}
 use lib.Pow.{pow-pos}
-use lib.Ieee.{Float, nan, inf, fin, binary64, ofBits, ofFields, toBits, odd, isNan, fits}
+use lib.Ieee.{Float, nan, inf, fin, binary64, ofFields, toBits, odd, isNan, fits}
 use lib.Ieee.Fits.{eq→eqb}
-use lib.Ieee.Bits.{ofBits-toBits}
 use lib.Ieee.Exact.{HasValue, odd-sign}
 use lib.Ieee.Scale.{finite}
 use Rattle.floats.specs.Values.{Unpacked}
+use Rattle.floats.proofs.Patterns.{by-fields}
 
 pub finite-no-nan : (x : Float) → T (finite x) → T (not (isNan x))
 unfolding isNan
 finite-no-nan nan p = absurd p
 finite-no-nan (inf s) p = absurd p
 finite-no-nan (fin s m e) p = tt
-
-fields : (b : ℕ) → ofBits binary64 b ≡ ofFields binary64 (leb (2 ^ 63) b) (b % 2 ^ 63 / 2 ^ 52) (b % 2 ^ 52)
-unfolding ofBits
-fields b = refl
 
 low-lt : (b : ℕ) → b % 4503599627370496 < 4503599627370496
 low-lt b = mod-lt b (pow-pos 52)
@@ -71,16 +67,13 @@ module _ (x : Float) (F : T (fits binary64 x)) (p : T (finite x)) where
   abbrev sign : Bool
   sign = leb (2 ^ 63) b
 
-  back : ofFields binary64 sign field low ≡ x
-  back = sym (fields b) ∙ ofBits-toBits binary64 x F
-
   pub unpacked-at-first : field ≡ 0 → Unpacked x sign low 0
   unpacked-at-first e =
-      subst (λ (k : Float). Unpacked k sign low 0) (ap (λ (k : ℕ). ofFields binary64 sign k low) (sym e) ∙ back)
+      subst (λ (k : Float). Unpacked k sign low 0) (ap (λ (k : ℕ). ofFields binary64 sign k low) (sym e) ∙ by-fields x F)
       (unpacked-first sign low (low-lt b))
 
   pub unpacked-at-later : (field ≡ 0 → ⊥) → Unpacked x sign (2 ^ 52 + low) (field - 1)
-  unpacked-at-later n = go field (field-lt b) back n
+  unpacked-at-later n = go field (field-lt b) (by-fields x F) n
     where
       less : (j : ℕ) → j ≡ suc j - 1
       less j = omega arith

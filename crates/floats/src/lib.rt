@@ -13,25 +13,29 @@ pub struct Parts {
     pub shift: u64,
 }
 
+// The fields of a bit pattern are one sign bit, eleven for the exponent, and these digits.
+const SIGN: u64 = 0x8000_0000_0000_0000;
+
+const HIDDEN_DIGIT: u64 = 0x10_0000_0000_0000;
+
+// All ones: the exponent field of an infinity, and of a NaN.
+const LAST_FIELD: u64 = 2047;
+
+// Only a NaN differs from itself, and it has no bits to be read.
 pub fn is_finite(x: f64) -> bool
     ensures { λ r. ⌜ r ≡ finite x ⌝ }
 {
-    let infinity = 1.0f64 / 0.0;
-    if x < infinity {
-        return -infinity < x;
+    if x == x {
+        return f64::to_bits(x) % SIGN / HIDDEN_DIGIT != LAST_FIELD;
     }
     false
 }
 
-// The comparison leaves a NaN as it is, and -0.0, which is not below 0.0, has a line of its own.
 pub fn abs(x: f64) -> f64
     ensures { λ r. ⌜ r ≡ magnitude x ⌝ }
 {
-    if x < 0.0 {
-        return -x;
-    }
-    if x == 0.0 {
-        return 0.0;
+    if x == x {
+        return f64::from_bits(f64::to_bits(x) % SIGN);
     }
     x
 }
@@ -42,9 +46,9 @@ pub fn unpack(x: f64) -> Parts
     ensures { λ r. ⌜ Unpacked x (r .negative) (r .digits) (r .shift) ⌝ }
 {
     let bits = f64::to_bits(x);
-    let negative = bits >= 0x8000_0000_0000_0000;
-    let field = bits % 0x8000_0000_0000_0000 / 0x10_0000_0000_0000;
-    let low = bits % 0x10_0000_0000_0000;
+    let negative = bits >= SIGN;
+    let field = bits % SIGN / HIDDEN_DIGIT;
+    let low = bits % HIDDEN_DIGIT;
     if field == 0 {
         return Parts {
             negative,
@@ -54,7 +58,7 @@ pub fn unpack(x: f64) -> Parts
     }
     Parts {
         negative,
-        digits: 0x10_0000_0000_0000 + low,
+        digits: HIDDEN_DIGIT + low,
         shift: field - 1,
     }
 }

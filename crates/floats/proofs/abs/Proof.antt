@@ -1,26 +1,30 @@
--- `floats::abs` meets its contract, by the three cases of a comparison with 0.0.
+-- `floats::abs` meets its contract: the pattern of what is no NaN, without its sign bit.
 use mathlib.Core.Path.{sym, ap, _∙_, subst}
 use lib.Dec.{T}
-use lib.Ieee.{Float, binary64, lt, eq, fits}
-use Rattle.floats.proofs.Compared.{zero-bits, magnitude-below, magnitude-zero, magnitude-above}
+use lib.Ieee.{binary64, fits}
+use Rattle.floats.specs.Values.{magnitude}
+use Rattle.floats.proofs.Patterns.{self-equal, self-unequal, magnitude-cleared, cleared-no-nan}
 use Rattle.floats.proofs.abs.Statement.{statement}
 use Rattle.floats.proofs.abs.Tie as tie
 
 is-held : (c : tie.Start) → T (fits binary64 (c .args .x))
 is-held c = subst T (sym (c .good .0 .1)) tt
 
+float-to-bits-result : tie.Need-float-to-bits-result
+float-to-bits-result c = self-equal (c .before .args .x) (c .if1 .taken)
+
+float-from-bits-result : tie.Need-float-from-bits-result
+float-from-bits-result c =
+    cleared-no-nan (c .before .args .x) (is-held (c .before)) (self-equal (c .before .args .x) (c .if1 .taken))
+
 returns : tie.Need-returns
-returns c = magnitude-below (c .before .args .x) (ap (λ (k : Float). lt (c .before .args .x) k) (sym zero-bits) ∙ c .if1 .taken)
+returns c = magnitude-cleared (c .before .args .x) (is-held (c .before))
 
 returns-2 : tie.Need-returns-2
+unfolding magnitude
 returns-2 c =
-    let x = c .before .before .args .x in
-    zero-bits ∙ magnitude-zero x (is-held (c .before .before)) (ap (λ (k : Float). eq x k) (sym zero-bits) ∙ c .if2 .taken)
-
-returns-3 : tie.Need-returns-3
-returns-3 c =
-    let x = c .before .before .args .x in
-    magnitude-above x (ap (λ (k : Float). lt x k) (sym zero-bits) ∙ c .before .if1 .left) (ap (λ (k : Float). eq x k) (sym zero-bits) ∙ c .if2 .left)
+    let is = self-unequal (c .before .args .x) (c .if1 .left) in
+    is ∙ sym (ap magnitude is)
 
 pub abs-spec : {M : Type 1} → statement M
-abs-spec = tie.close (tie.spec returns returns-2 returns-3)
+abs-spec = tie.close (tie.spec float-to-bits-result float-from-bits-result returns returns-2)

@@ -1,15 +1,23 @@
--- `floats::is_finite` meets its contract, by the comparisons with the two infinities.
-use Rattle.floats.proofs.Compared.{infinity, finite-below, not-finite-above}
+-- `floats::is_finite` meets its contract: the exponent field of what is no NaN.
+use mathlib.Core.Path.{sym, ap, subst}
+use lib.Dec.{T}
+use lib.Ieee.{binary64, fits}
+use lib.Ieee.Scale.{finite}
+use Rattle.floats.proofs.Patterns.{self-equal, self-unequal, finite-by-field}
 use Rattle.floats.proofs.is_finite.Statement.{statement}
 use Rattle.floats.proofs.is_finite.Tie as tie
 
+is-held : (c : tie.Start) → T (fits binary64 (c .args .x))
+is-held c = subst T (sym (c .good .0 .1)) tt
+
+float-to-bits-result : tie.Need-float-to-bits-result
+float-to-bits-result c = self-equal (c .before .args .x) (c .if1 .taken)
+
 returns : tie.Need-returns
-unfolding infinity
-returns c = finite-below (c .before .args .x) (c .if1 .taken)
+returns c = finite-by-field (c .before .args .x) (is-held (c .before))
 
 returns-2 : tie.Need-returns-2
-unfolding infinity
-returns-2 c = not-finite-above (c .before .args .x) (c .if1 .left)
+returns-2 c = sym (ap finite (self-unequal (c .before .args .x) (c .if1 .left)))
 
 pub is-finite-spec : {M : Type 1} → statement M
-is-finite-spec = tie.close (tie.spec returns returns-2)
+is-finite-spec = tie.close (tie.spec float-to-bits-result returns returns-2)

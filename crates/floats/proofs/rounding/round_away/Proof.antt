@@ -1,6 +1,7 @@
 -- `rounding::round_away` meets its contract: the parts' nearest whole number, with their sign, is the integer of the exact rule.
 use mathlib.Core.Path.{sym, ap, _∙_}
-use Rattle.floats.proofs.Compared.{yes, not-was-false, not-was-true}
+use borrow.Author.Tests.{not-true, not-false}
+use Rattle.floats.proofs.Patterns.{yes}
 use Rattle.floats.proofs.Signs.{fitted, rounded-held, none-held}
 use Rattle.floats.proofs.rounding.round_away.Statement.{statement}
 use Rattle.floats.proofs.rounding.round_away.Tie as tie
@@ -11,10 +12,10 @@ is-finite-requires c κs = tt
 returns : tie.Need-returns
 returns c =
     let a = c .before .before .args in
-    none-held (a .bits) (a .x) _ (sym (c .before .is-finite .ensures) ∙ not-was-true _ (c .if1 .taken))
+    none-held (a .bits) (a .x) _ (sym (c .before .is-finite .ensures) ∙ not-true _ (c .if1 .taken))
 
 unpack-requires : tie.Need-unpack-requires
-unpack-requires c κs = yes (sym (c .before .is-finite .ensures) ∙ not-was-false _ (c .if1 .left))
+unpack-requires c κs = yes (sym (c .before .is-finite .ensures) ∙ not-false _ (c .if1 .left))
 
 nearest-part-requires : tie.Need-nearest-part-requires
 nearest-part-requires c κs = c .unpack .ensures .held
