@@ -1,5 +1,5 @@
 -- The exponent of a float above zero: `exponentOf` is the greatest e with 2 ^ e not above it, and is read off the leading zeros of its digits.
-use mathlib.Core.Path.{_≡_, sym, ap, _∙_, subst}
+use mathlib.Core.Path.{_≡_, refl, sym, ap, _∙_, subst}
 use mathlib.Core.Bool.{Bool, true, false, cond}
 use Prim.Native.Nat.{ℕ, suc, _+_, _-_, _*_, _/_, _^_, _≤_, _<_}
 use native.Mathlib.Nat.{le-trans, le-of-eq, lt-of-lt-of-le, lt-of-le-of-lt, lt-of-not-le, not-le-of-lt, mul-le-mul-right, mul-lt-mul-of-pos-right, le-div-iff-mul-le, div-lt-iff-lt-mul}
@@ -11,9 +11,9 @@ use lib.Count.{leadingZeros, leading-top}
 use lib.Ieee.{Float, nan, inf, fin, binary64, fits, minus, size}
 use lib.Ieee.Digits.{size-lt, size-le}
 use lib.Ieee.Exact.{HasValue}
-use lib.Ieee.Positive.{num, den, positive, den-pos, value→cross, value-pos, first-pos, positive-finite}
-use Rattle.floats.specs.Values.{Unpacked, exponentOf}
-use Rattle.floats.proofs.Unpacking.{packed}
+use lib.Ieee.Positive.{num, den, positive, den-pos, value-pos, first-pos, positive-finite}
+use Rattle.floats.specs.Values.{Unpacked, exponentOf, isNegative}
+use Rattle.floats.proofs.Unpacking.{value-sign, value-size, packed}
 
 -- n is e + 1074 for the greatest e with 2 ^ e not above x
 pub record Greatest (x : Float) (n : ℕ) : Type 0 where
@@ -44,18 +44,18 @@ greatest-exponent x n g =
     between : (z : ℕ) → n < z → z ≤ n + 1 → suc n ≡ z
     between z a b = omega arith
 
-above-zero : (x : Float) (s : Bool) (a c : ℕ) → T (positive x) → HasValue x s a c → s ≡ false
-above-zero nan s a c p h = absurd p
-above-zero (inf t) s a c p h = absurd p
-above-zero (fin true m e) s a c p h = absurd p
-above-zero (fin false m e) s a c p h = sym (h .0)
+above-zero : (x : Float) → T (positive x) → isNegative x ≡ false
+above-zero nan p = absurd p
+above-zero (inf t) p = absurd p
+above-zero (fin true m e) p = absurd p
+above-zero (fin false m e) p = refl
 
 module _ (x : Float) (s : Bool) (q k : ℕ) (p : T (positive x)) (u : Unpacked x s q k) where
   value : HasValue x false (q * 2 ^ k) (2 ^ 1074)
-  value = subst (λ (b : Bool). HasValue x b (q * 2 ^ k) (2 ^ 1074)) (above-zero x s (q * 2 ^ k) (2 ^ 1074) p (u .value)) (u .value)
+  value = subst (λ (b : Bool). HasValue x b (q * 2 ^ k) (2 ^ 1074)) (sym (value-sign x s (q * 2 ^ k) (2 ^ 1074) (u .value)) ∙ above-zero x p) (u .value)
 
   cross : num x * 2 ^ 1074 ≡ q * 2 ^ k * den x
-  cross = value→cross x (q * 2 ^ k) (2 ^ 1074) value
+  cross = value-size x s (q * 2 ^ k) (2 ^ 1074) (u .value)
 
   some : 0 < q
   some = first-pos q (2 ^ k) (value-pos x (q * 2 ^ k) (2 ^ 1074) p (pow-pos 1074) value)

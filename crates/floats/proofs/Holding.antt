@@ -9,8 +9,8 @@ use lib.Ieee.{Float}
 use lib.Ieee.Fits.{and-r}
 use lib.Ieee.Scale.{finite}
 use lib.Signed.{mag}
-use Rattle.floats.specs.Wholes.{inBits, holds, held}
-use Rattle.floats.specs.declared.rounding.Whole.the-variants.{At, Outside}
+use Rattle.floats.specs.Integers.{inBits, holds, held}
+use Rattle.floats.specs.declared.rounding.Integer.the-variants.{At, Outside}
 
 pub record Handed (bits : ℕ) (x : Float) (z v : ℤ) : Type 0 where
   pub is : v ≡ z

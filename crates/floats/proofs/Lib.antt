@@ -1,6 +1,6 @@
 pub mod Patterns
 pub mod Unpacking
 pub mod Exponents
-pub mod WholeParts
+pub mod IntegerParts
 pub mod Signs
 pub mod Holding

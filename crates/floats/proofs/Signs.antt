@@ -8,9 +8,8 @@ use lib.IntN.{ℤ, pos, negsuc}
 use lib.Dec.{T, ltb, lt→ltb, ltb→lt, nltb→le}
 use lib.Arith.{le→nltb}
 use lib.Pow.{pow-pos, pow-mono}
-use lib.Ieee.{Float, nan, inf, fin}
+use lib.Ieee.{Float}
 use lib.Ieee.Bits.{is-true, is-false}
-use lib.Ieee.Exact.{HasValue}
 use lib.Ieee.Nearest.{div-same}
 use lib.Ieee.Positive.{num, den, den-pos}
 use lib.Ieee.Scale.{finite}
@@ -18,13 +17,14 @@ use mir.Syntax.{w64}
 use mir.Val.{toZ}
 use mir.Facts.{toZ-pos, toZ-neg}
 use Rattle.floats.specs.Values.{Unpacked, isNegative}
-use Rattle.floats.specs.Wholes.{halfUp, signed, inBits, roundedOf, cutOf, held}
-use Rattle.floats.specs.declared.rounding.Whole.{Whole}
-use Rattle.floats.specs.declared.rounding.Whole.the-variants.{At, Outside}
-use Rattle.floats.proofs.WholeParts.{halfUp-same}
+use Rattle.floats.specs.Integers.{halfUp, signed, inBits, roundedOf, cutOf, held}
+use Rattle.floats.specs.declared.rounding.Integer.{Integer}
+use Rattle.floats.specs.declared.rounding.Integer.the-variants.{At, Outside}
+use Rattle.floats.proofs.Unpacking.{value-finite, value-sign, value-size}
+use Rattle.floats.proofs.IntegerParts.{halfUp-same}
 
 -- n with that sign where it fits
-abbrev pub fitted : ℕ → Bool → ℕ → Whole
+abbrev pub fitted : ℕ → Bool → ℕ → Integer
 fitted bits s n = cond (inBits bits (signed s n)) (At (signed s n)) Outside
 
 -- ---- 2 ^ (bits - 1), as 1 << (bits - 1) has it
@@ -124,35 +124,14 @@ module _ (bits : ℕ) (l : 1 ≤ bits) (h : bits ≤ 64) where
 
   -- ---- a float's integer, from its parts
   module _ (x : Float) (s : Bool) (q k : ℕ) (u : Unpacked x s q k) where
-    negative-is : isNegative x ≡ s
-    negative-is = go x (u .value)
-      where
-        go : (x : Float) → HasValue x s (q * 2 ^ k) (2 ^ 1074) → isNegative x ≡ s
-        go nan v = absurd v
-        go (inf t) v = absurd v
-        go (fin t m e) v = v .0
-
     size-is : num x * 2 ^ 1074 ≡ q * 2 ^ k * den x
-    size-is = go x (u .value)
-      where
-        go : (x : Float) → HasValue x s (q * 2 ^ k) (2 ^ 1074) → num x * 2 ^ 1074 ≡ q * 2 ^ k * den x
-        go nan v = absurd v
-        go (inf t) v = absurd v
-        go (fin t m e) v = v .1
-
-    finite-is : finite x ≡ true
-    finite-is = go x (u .value)
-      where
-        go : (x : Float) → HasValue x s (q * 2 ^ k) (2 ^ 1074) → finite x ≡ true
-        go nan v = absurd v
-        go (inf t) v = absurd v
-        go (fin t m e) v = refl
+    size-is = value-size x s (q * 2 ^ k) (2 ^ 1074) (u .value)
 
     held-at : (n : ℕ) → held bits x (signed (isNegative x) n) ≡ fitted bits s n
     unfolding held
     held-at n =
-        ap (λ (b : Bool). cond (b && inBits bits (signed (isNegative x) n)) (At (signed (isNegative x) n)) Outside) finite-is
-        ∙ ap (λ (b : Bool). fitted bits b n) negative-is
+        ap (λ (b : Bool). cond (b && inBits bits (signed (isNegative x) n)) (At (signed (isNegative x) n)) Outside) (value-finite x s (q * 2 ^ k) (2 ^ 1074) (u .value))
+        ∙ ap (λ (b : Bool). fitted bits b n) (value-sign x s (q * 2 ^ k) (2 ^ 1074) (u .value))
 
     pub rounded-held : fitted bits s (min (halfUp (q * 2 ^ k) (2 ^ 1074)) (2 ^ 64 - 1)) ≡ held bits x (roundedOf x)
     unfolding roundedOf

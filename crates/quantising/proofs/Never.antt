@@ -16,7 +16,7 @@ use lib.Ieee.Fits.{add-fits, and-i}
 use lib.Ieee.Positive.{num, den, den-pos}
 use lib.Ieee.Scale.{finite}
 use Rattle.floats.specs.Values.{isNegative}
-use Rattle.floats.specs.Wholes.{halfUp, signed, roundedOf, cutOf, inBits, holds}
+use Rattle.floats.specs.Integers.{halfUp, signed, roundedOf, cutOf, inBits, holds}
 use Rattle.floats.proofs.Unpacking.{packed}
 use Rattle.kinds.specs.declared.Width.{Width}
 use Rattle.kinds.specs.declared.Width.the-variants.{Eight, Sixteen, ThirtyTwo}
@@ -28,7 +28,7 @@ use Rattle.quantising.specs.Steps.{weightOf, weightsHold, biasOf, biasHo
 use Rattle.quantising.specs.declared.scaling.Scale.the-variants.{By}
 use Rattle.quantising.proofs.Unsigned.{absTotal-unsigned}
 use Rattle.quantising.proofs.Divisors.{limit-float, divisor-positive, divisor-size, quotient-positive}
-use Rattle.quantising.proofs.Units.{Counts, whole-float, scale-exact}
+use Rattle.quantising.proofs.Units.{Counts, integer-float, scale-exact}
 use Rattle.quantising.proofs.Sums.{unitsOf, units-packed, totalUnits, Held, Finite, terms-finite, divisor-bounded, bias-finite}
 use Rattle.quantising.proofs.Quotients.{power-not-above, shift-bound}
 use Rattle.quantising.proofs.Settling.{is-admitted, past-scale}
@@ -175,7 +175,7 @@ module _ (W v q : ℕ) (r : Room W v) (small : q ≤ 31) where
       let k = packed x F f in
       let is = units-packed x k in
       subst (λ (n : ℕ). Counts (x ⊗ p) (n * 2 ^ q)) (sym is)
-      (scale-exact x p (k .negative) (k .digits) (k .shift) q (k .parts .value) (k .parts .held .few) (whole-float (2 ^ q) (pow-le q small))
+      (scale-exact x p (k .negative) (k .digits) (k .shift) q (k .parts .value) (k .parts .held .few) (integer-float (2 ^ q) (pow-le q small))
       (subst (λ (n : ℕ). n * 2 ^ q < 2 ^ 2098) is (below (unitsOf x * 2 ^ q) (v * 2 ^ 1074) (2 ^ 1137) (2 ^ 2098) h (le-trans (mul-le-mul-right (2 ^ 1074) (r .top)) (le-of-eq (sym (pow-add 2 63 1074)))) (pow-lt {i = 1137} {j = 2098} (lit< tt)))))
     where
       pow-le : (q : ℕ) → q ≤ 31 → 2 ^ q ≤ 2 ^ 53
@@ -259,8 +259,8 @@ module _ (W v q : ℕ) (r : Room W v) (small : q ≤ 31) where
       l (r .sums)))
 
 -- ---- from the divisor and the shift to the first part
-whole-room : (e m b s D c : ℕ) → 8 * (e * m + b) ≤ 9 * D → 3 * (s * D) ≤ 2 * c → 4 * (e * s * m + b * s) ≤ 3 * c
-whole-room e m b s D c h k =
+both-room : (e m b s D c : ℕ) → 8 * (e * m + b) ≤ 9 * D → 3 * (s * D) ≤ 2 * c → 4 * (e * s * m + b * s) ≤ 3 * c
+both-room e m b s D c h k =
     le-trans (le-of-eq (ap (λ (z : ℕ). 4 * z) (same e m b s)))
     (go (s * (e * m + b)) (s * D) c (le-trans (le-of-eq (mul-left-comm 8 s (e * m + b))) (le-trans (mul-le-mul-left s h) (le-of-eq (mul-left-comm s 9 D)))) k)
   where
@@ -292,10 +292,10 @@ never-refused w ws centre c q b h n s =
     let D = divisor-bounded W ws bias h F (m .exact) n (t .absTotal-finite) (t .divisor-finite) in
     let p = divisor-positive W S bias u (t .divisor-finite) in
     let shifted = shift-bound L d v (D .count) q small (limit-float w .above-zero) (m .value) p (divisor-size W S bias u (t .divisor-finite)) (D .counts) (quotient-positive w S bias u (t .divisor-finite)) (power .0) in
-    let whole = whole-room (totalUnits ws) (greatest W) (unitsOf bias) (2 ^ q) (D .count) (v * 2 ^ 1074) (D .bound) shifted in
-    let weights = first (totalUnits ws * 2 ^ q * greatest W) (unitsOf bias * 2 ^ q) (3 * (v * 2 ^ 1074)) whole in
-    let rest = second (totalUnits ws * 2 ^ q * greatest W) (unitsOf bias * 2 ^ q) (3 * (v * 2 ^ 1074)) whole in
+    let both = both-room (totalUnits ws) (greatest W) (unitsOf bias) (2 ^ q) (D .count) (v * 2 ^ 1074) (D .bound) shifted in
+    let weights = first (totalUnits ws * 2 ^ q * greatest W) (unitsOf bias * 2 ^ q) (3 * (v * 2 ^ 1074)) both in
+    let rest = second (totalUnits ws * 2 ^ q * greatest W) (unitsOf bias * 2 ^ q) (3 * (v * 2 ^ 1074)) both in
     ap (λ (x : Float). found q (biasOf (float (2 ^ q)) x) (map (weightOf (float (2 ^ q))) ws)) (power .1)
-    ∙ is-admitted W ws q bias (weights-hold W v q m small ws h terms weights) (bias-holds W v q m small bias F f rest) (rule-holds W v q m small ws bias h terms F f n whole)
+    ∙ is-admitted W ws q bias (weights-hold W v q m small ws h terms weights) (bias-holds W v q m small bias F f rest) (rule-holds W v q m small ws bias h terms F f n both)
     ∙ ap (λ (x : Float). settled W ws (By q x)) (sym (power .1))
     ∙ past-scale W ws centre c q b s

@@ -16,7 +16,7 @@ use Rattle.floats.proofs.Unpacking.{Packed, packed}
 use Rattle.rule.specs.Numbers.{greatest}
 use Rattle.quantising.specs.Scale.{_⊕_, _⊗_, float, sumFrom, absTotal, divisor}
 use Rattle.quantising.proofs.Unsigned.{Unsigned, float-unsigned, magnitude-unsigned, add-unsigned, mul-unsigned, absTotal-unsigned}
-use Rattle.quantising.proofs.Units.{Counts, add-near, mul-near, whole-float}
+use Rattle.quantising.proofs.Units.{Counts, add-near, mul-near, integer-float}
 use Rattle.quantising.proofs.Losses.{Under, under-start, under-round, under-add, under-mul, under-all}
 
 -- ---- a float's size in units, and a list's
@@ -147,7 +147,7 @@ divisor-bounded W ws bias h F g l f d =
     let d1 : T (finite (S ⊗ float M)) = left-finite (S ⊗ float M) (magnitude bias) d2 in
     let u1 = mul-unsigned S (float M) u (float-unsigned M) in
     let u2 = add-unsigned (S ⊗ float M) (magnitude bias) u1 (magnitude-unsigned bias) in
-    let n1 = mul-near S (float M) (s .count) M u (s .counts) (whole-float M g) d1 in
+    let n1 = mul-near S (float M) (s .count) M u (s .counts) (integer-float M g) d1 in
     let n2 = add-near (S ⊗ float M) (magnitude bias) (n1 .count) B u1 (magnitude-unsigned bias) (n1 .counts) (counted-magnitude bias B (counted bias F (right-finite (S ⊗ float M) bias d2))) d2 in
     let n3 = add-near (S ⊗ float M ⊕ magnitude bias) (float 1) (n2 .count) (2 ^ 1074) u2 (float-unsigned 1) (n2 .counts) one-counts d in
     let r1 = under-round (totalUnits ws * M) (s .count * M) (n1 .count) n (under-mul (totalUnits ws) (s .count) M n (s .under)) (n1 .kept) in

@@ -8,7 +8,7 @@ use lib.IntN.{ℤ}
 use lib.ListN.{length, getD, take, drop, set}
 use lib.Seq.{take-suc-set}
 use lib.Ieee.{Float, nan}
-use Rattle.floats.specs.Wholes.{holds}
+use Rattle.floats.specs.Integers.{holds}
 use Rattle.quantising.specs.Scale.{_⊗_}
 use Rattle.quantising.proofs.Adding.{next-weight}
 use Rattle.quantising.specs.Steps.{weightOf, weightsHold}

@@ -32,8 +32,8 @@ pub record Near (z : Float) (a : ℕ) : Type 0 where
 near-grid : (a U : ℕ) (g : ℕ) → 0 < U → (k : ℕ) → k ≡ size a - 53 → a * U / (U * 2 ^ k) * 2 ^ k ≤ g → a * (2 ^ 52 - 1) ≤ g * 2 ^ 52
 near-grid a U g u k e h = go k e (subst (λ (n : ℕ). n * 2 ^ k ≤ g) (div-same (a * U) (U * 2 ^ k) a (2 ^ k) (mul-pos u (pow-pos k)) (pow-pos k) (mul-assoc a U (2 ^ k))) h)
   where
-    whole : (a g : ℕ) → a ≤ g → a * 4503599627370495 ≤ g * 4503599627370496
-    whole a g h = omega arith
+    kept-all : (a g : ℕ) → a ≤ g → a * 4503599627370495 ≤ g * 4503599627370496
+    kept-all a g h = omega arith
 
     lost : (a g p r : ℕ) → g + r ≡ a → r < p → p * 4503599627370496 ≤ a → a * 4503599627370495 ≤ g * 4503599627370496
     lost a g p r e h k = omega arith
@@ -45,7 +45,7 @@ near-grid a U g u k e h = go k e (subst (λ (n : ℕ). n * 2 ^ k ≤ g) (div-sam
     room k z e = omega arith
 
     go : (k : ℕ) → k ≡ size a - 53 → a / 2 ^ k * 2 ^ k ≤ g → a * (2 ^ 52 - 1) ≤ g * 2 ^ 52
-    go zero e h = whole a g (le-trans (le-of-eq (sym (split a 0) ∙ rest a)) h)
+    go zero e h = kept-all a g (le-trans (le-of-eq (sym (split a 0) ∙ rest a)) h)
       where
         rest : (a : ℕ) → a / 1 * 1 + a % 1 ≡ a / 1 * 1
         rest a = omega arith
@@ -97,17 +97,17 @@ cross-mul : (a b X M U p q : ℕ) → a * U ≡ X * p → b ≡ M * q → a * b 
 cross-mul a b X M U p q e f = mul-right-comm a b U ∙ ap₂ (λ (x y : ℕ). x * y) e f ∙ mul-mul-mul-comm X p M q
 
 -- y is the whole number M
-pub record IsWhole (y : Float) (M : ℕ) : Type 0 where
+pub record IsInteger (y : Float) (M : ℕ) : Type 0 where
   pub value : HasValue y false M 1
 
-pub whole-float : (n : ℕ) → n ≤ 2 ^ 53 → IsWhole (float n) n
+pub integer-float : (n : ℕ) → n ≤ 2 ^ 53 → IsInteger (float n) n
 unfolding ofInt
-whole-float n h = record { value = round-whole binary64 false n h }
+integer-float n h = record { value = round-whole binary64 false n h }
 
-whole-cross : (a M q : ℕ) → a * 1 ≡ M * q → a ≡ M * q
-whole-cross a M q e = sym (mul-one a) ∙ e
+integer-cross : (a M q : ℕ) → a * 1 ≡ M * q → a ≡ M * q
+integer-cross a M q e = sym (mul-one a) ∙ e
 
-pub mul-near : (x y : Float) (X M : ℕ) → Unsigned x → Counts x X → IsWhole y M → T (finite (x ⊗ y)) → Near (x ⊗ y) (X * M)
+pub mul-near : (x y : Float) (X M : ℕ) → Unsigned x → Counts x X → IsInteger y M → T (finite (x ⊗ y)) → Near (x ⊗ y) (X * M)
 unfolding mul
 mul-near nan y X M u c w f = absurd (c .is-finite)
 mul-near (inf s) y X M u c w f = absurd (c .is-finite)
@@ -118,7 +118,7 @@ mul-near (fin false m e) (fin true n g) X M u c w f = absurd (true≢false (w .v
 mul-near (fin false m e) (fin false n g) X M u c w f =
     rounded-near _ (X * M)
     (round-same binary64 false (m * up e * (n * up g)) (down e * down g) (X * M) (2 ^ 1074) (mul-pos (down-pos e) (down-pos g)) (pow-pos 1074)
-    (cross-mul (m * up e) (n * up g) X M (2 ^ 1074) (down e) (down g) (c .size-is) (whole-cross (n * up g) M (down g) (w .value .1))))
+    (cross-mul (m * up e) (n * up g) X M (2 ^ 1074) (down e) (down g) (c .size-is) (integer-cross (n * up g) M (down g) (w .value .1))))
     f
 
 -- ---- a product with 2 ^ q is exact, where it does not overflow
@@ -132,7 +132,7 @@ across (fin t m f) s a c w C e v = record {
       (mul-right-comm (m * up f) (2 ^ 1074) c ∙ ap (λ (z : ℕ). z * 2 ^ 1074) (v .1) ∙ mul-right-comm a (down f) (2 ^ 1074) ∙ ap (λ (z : ℕ). z * down f) e ∙ mul-right-comm w c (down f));
 }
 
-pub scale-exact : (x y : Float) (s : Bool) (d k q : ℕ) → HasValue x s (d * 2 ^ k) (2 ^ 1074) → d < 2 ^ 53 → IsWhole y (2 ^ q) → d * 2 ^ k * 2 ^ q < 2 ^ 2098 → Counts (x ⊗ y) (d * 2 ^ k * 2 ^ q)
+pub scale-exact : (x y : Float) (s : Bool) (d k q : ℕ) → HasValue x s (d * 2 ^ k) (2 ^ 1074) → d < 2 ^ 53 → IsInteger y (2 ^ q) → d * 2 ^ k * 2 ^ q < 2 ^ 2098 → Counts (x ⊗ y) (d * 2 ^ k * 2 ^ q)
 unfolding mul
 scale-exact nan y s d k q v h w l = absurd v
 scale-exact (inf t) y s d k q v h w l = absurd v
@@ -143,6 +143,6 @@ scale-exact (fin t m e) (fin r n g) s d k q v h w l =
     let c = down e * down g in
     let C : 0 < c = mul-pos (down-pos e) (down-pos g) in
     let same : d * 2 ^ (k + q) ≡ d * 2 ^ k * 2 ^ q = ap (λ (z : ℕ). d * z) (pow-add 2 k q) ∙ sym (mul-assoc d (2 ^ k) (2 ^ q)) in
-    let is : a * 2 ^ 1074 ≡ d * 2 ^ k * 2 ^ q * c = cross-mul (m * up e) (n * up g) (d * 2 ^ k) (2 ^ q) (2 ^ 1074) (down e) (down g) (v .1) (whole-cross (n * up g) (2 ^ q) (down g) (w .value .1)) in
+    let is : a * 2 ^ 1074 ≡ d * 2 ^ k * 2 ^ q * c = cross-mul (m * up e) (n * up g) (d * 2 ^ k) (2 ^ q) (2 ^ 1074) (down e) (down g) (v .1) (integer-cross (n * up g) (2 ^ q) (down g) (w .value .1)) in
     across (round binary64 (unlike t r) a c) (unlike t r) a c (d * 2 ^ k * 2 ^ q) C is
     (round-exact binary64 (unlike t r) a c d (k + q) C h (subst (λ (z : ℕ). z < 2 ^ 2098) (sym same) l) (is ∙ ap (λ (z : ℕ). z * c) (sym same)))

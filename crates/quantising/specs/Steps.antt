@@ -4,7 +4,7 @@ use mathlib.Core.List.{List, [], _∷_, map}
 use Prim.Native.Nat.{ℕ, _^_}
 use lib.IntN.{ℤ}
 use lib.Ieee.{Float}
-use Rattle.floats.specs.Wholes.{roundedOf, cutOf, holds}
+use Rattle.floats.specs.Integers.{roundedOf, cutOf, holds}
 use Rattle.rule.specs.Prediction.{admitted}
 use Rattle.quantising.specs.declared.scaling.Scale.{Scale}
 use Rattle.quantising.specs.declared.scaling.Scale.the-variants.{Nothing, By}

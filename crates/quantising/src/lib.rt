@@ -2,7 +2,7 @@
 // cut of step 5 are worked out in whole numbers.
 use crate::scaling::Scale;
 use crate::scaling::choose_scale;
-use floats::rounding::Whole;
+use floats::rounding::Integer;
 use kinds::Answer;
 use kinds::Order;
 use kinds::Shift;
@@ -53,8 +53,8 @@ fn round_weights(weights: [f64; 32], order: usize, factor: f64) -> RoundedWeight
     let mut rounded = [0i32; 32];
     let mut i = 0;
     while i < order {
-        let whole = floats::rounding::round_away(weights[i] * factor, 32);
-        let Whole::At(w) = whole else {
+        let integer = floats::rounding::round_away(weights[i] * factor, 32);
+        let Integer::At(w) = integer else {
             return RoundedWeights {
                 fit: false,
                 weights: rounded,
@@ -101,18 +101,18 @@ fn configure(
         return no_configuration();
     }
     let cut = floats::rounding::cut(float_bias * factor, 64);
-    let Whole::At(bias) = cut else {
+    let Integer::At(bias) = cut else {
         return no_configuration();
     };
-    let whole = rounded.weights;
-    if !admission::accumulator::is_admitted(width, bias, &whole[..order]) {
+    let integers = rounded.weights;
+    if !admission::accumulator::is_admitted(width, bias, &integers[..order]) {
         return no_configuration();
     }
     Configuration {
         found: true,
         shift: q,
         bias,
-        weights: whole,
+        weights: integers,
     }
 }
 
@@ -167,8 +167,8 @@ pub fn quantise(width: Width, fitted: Fitted, centre: u32, weights: &mut [i32]) 
     }
     let floats = fitted.weights;
     let config = configure(width, floats, order.0, centre, fitted.bias);
-    let whole = config.weights;
-    fill(weights, config.found, whole);
+    let integers = config.weights;
+    fill(weights, config.found, integers);
     hand_back(config)
 }
 

@@ -1,6 +1,6 @@
 // Document 01's worked examples of quantising, and the edges of its steps. A line is: the answer's number, the shift, the bias, and the
 // lent slice after the call, which held 77 at each place before it.
-use floats::rounding::Whole;
+use floats::rounding::Integer;
 use kinds::Order;
 use libc::STDOUT_FILENO;
 use quantising::Fitted;
@@ -42,10 +42,10 @@ fn print_line(width: &[u8], done: Quantised, slice: &[i32]) {
     print(b"\n");
 }
 
-fn print_whole(whole: Whole) {
-    match whole {
-        Whole::At(n) => print_integer(n),
-        Whole::Outside => print(b"outside"),
+fn print_or_outside(integer: Integer) {
+    match integer {
+        Integer::At(n) => print_integer(n),
+        Integer::Outside => print(b"outside"),
     }
     print(b"\n");
 }
@@ -161,29 +161,29 @@ fn shifts() {
 
 fn rounded() {
     print(b"to 32 bits, to the nearest\n");
-    print_whole(floats::rounding::round_away(2147483647.0, 32));
-    print_whole(floats::rounding::round_away(2147483647.4999995, 32));
-    print_whole(floats::rounding::round_away(2147483647.5, 32));
-    print_whole(floats::rounding::round_away(2147483648.0, 32));
-    print_whole(floats::rounding::round_away(-2147483648.0, 32));
-    print_whole(floats::rounding::round_away(-2147483648.4999995, 32));
-    print_whole(floats::rounding::round_away(-2147483648.5, 32));
-    print_whole(floats::rounding::round_away(4503599627370495.5, 32));
-    print_whole(floats::rounding::round_away(1.0 / 0.0, 32));
-    print_whole(floats::rounding::round_away(0.0 / 0.0, 32));
-    print_whole(floats::rounding::round_away(5e-324, 32));
+    print_or_outside(floats::rounding::round_away(2147483647.0, 32));
+    print_or_outside(floats::rounding::round_away(2147483647.4999995, 32));
+    print_or_outside(floats::rounding::round_away(2147483647.5, 32));
+    print_or_outside(floats::rounding::round_away(2147483648.0, 32));
+    print_or_outside(floats::rounding::round_away(-2147483648.0, 32));
+    print_or_outside(floats::rounding::round_away(-2147483648.4999995, 32));
+    print_or_outside(floats::rounding::round_away(-2147483648.5, 32));
+    print_or_outside(floats::rounding::round_away(4503599627370495.5, 32));
+    print_or_outside(floats::rounding::round_away(1.0 / 0.0, 32));
+    print_or_outside(floats::rounding::round_away(0.0 / 0.0, 32));
+    print_or_outside(floats::rounding::round_away(5e-324, 32));
 }
 
 fn cut() {
     print(b"to 64 bits, cut\n");
-    print_whole(floats::rounding::cut(9223372036854774784.0, 64));
-    print_whole(floats::rounding::cut(9223372036854775808.0, 64));
-    print_whole(floats::rounding::cut(-9223372036854775808.0, 64));
-    print_whole(floats::rounding::cut(-9223372036854777856.0, 64));
-    print_whole(floats::rounding::cut(-0.9999999999999999, 64));
-    print_whole(floats::rounding::cut(4503599627370495.5, 64));
-    print_whole(floats::rounding::cut(-1.0 / 0.0, 64));
-    print_whole(floats::rounding::cut(0.0 / 0.0, 64));
+    print_or_outside(floats::rounding::cut(9223372036854774784.0, 64));
+    print_or_outside(floats::rounding::cut(9223372036854775808.0, 64));
+    print_or_outside(floats::rounding::cut(-9223372036854775808.0, 64));
+    print_or_outside(floats::rounding::cut(-9223372036854777856.0, 64));
+    print_or_outside(floats::rounding::cut(-0.9999999999999999, 64));
+    print_or_outside(floats::rounding::cut(4503599627370495.5, 64));
+    print_or_outside(floats::rounding::cut(-1.0 / 0.0, 64));
+    print_or_outside(floats::rounding::cut(0.0 / 0.0, 64));
 }
 
 fn not_finite() {

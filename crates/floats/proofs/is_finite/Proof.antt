@@ -1,20 +1,15 @@
 -- `floats::is_finite` meets its contract: the exponent field of what is no NaN.
-use mathlib.Core.Path.{sym, ap, subst}
-use lib.Dec.{T}
-use lib.Ieee.{binary64, fits}
+use mathlib.Core.Path.{sym, ap}
 use lib.Ieee.Scale.{finite}
-use Rattle.floats.proofs.Patterns.{self-equal, self-unequal, finite-by-field}
+use Rattle.floats.proofs.Patterns.{yes, self-equal, self-unequal, finite-by-field}
 use Rattle.floats.proofs.is_finite.Statement.{statement}
 use Rattle.floats.proofs.is_finite.Tie as tie
-
-is-held : (c : tie.Start) → T (fits binary64 (c .args .x))
-is-held c = subst T (sym (c .good .0 .1)) tt
 
 float-to-bits-result : tie.Need-float-to-bits-result
 float-to-bits-result c = self-equal (c .before .args .x) (c .if1 .taken)
 
 returns : tie.Need-returns
-returns c = finite-by-field (c .before .args .x) (is-held (c .before))
+returns c = finite-by-field (c .before .args .x) (yes (c .before .good .0 .1))
 
 returns-2 : tie.Need-returns-2
 returns-2 c = sym (ap finite (self-unequal (c .before .args .x) (c .if1 .left)))

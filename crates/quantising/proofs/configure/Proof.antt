@@ -13,7 +13,7 @@ use lib.Ieee.{Float, binary64, ofInt}
 use mir.Facts.{toZ-ofZ}
 use mir.Syntax.{w64}
 use mir.Val.{toZ, ofZ}
-use Rattle.floats.specs.Wholes.{cutOf}
+use Rattle.floats.specs.Integers.{cutOf}
 use Rattle.floats.proofs.Compared.{not-was-true, not-was-false}
 use Rattle.floats.proofs.Holding.{Handed, handed, outside}
 use Rattle.kinds.specs.Widths.{bitsOf}
@@ -172,13 +172,13 @@ returns-3 c =
     ∙ no-bias (W (start a)) (ws (start a)) (q a) (b a) (weights-hold e) (subst (λ (p : Float). biasHolds p (b a) ≡ false) (power-is (q a) (small a)) out)
     ∙ reached a
 
-array-share-prefix-whole : tie.Need-array-share-prefix-whole
-array-share-prefix-whole c =
+array-share-prefix-integers : tie.Need-array-share-prefix-integers
+array-share-prefix-integers c =
     let r = rounded (scaled (c .before)) in
     subst (λ (n : ℕ). start (shift r) .args .order ≤ n) (sym (r .round-weights .ensures .places)) (start (shift r) .pre)
 
 slice-aggregate-is-admitted : tie.Need-slice-aggregate-is-admitted
-slice-aggregate-is-admitted c = sym (length-take-le _ _ (array-share-prefix-whole (c .before)))
+slice-aggregate-is-admitted c = sym (length-take-le _ _ (array-share-prefix-integers (c .before)))
 
 is-admitted-requires : tie.Need-is-admitted-requires
 is-admitted-requires c κs = search needs
@@ -224,7 +224,7 @@ configure-spec =
     enum-told-2
     no-configuration-requires-3
     returns-3
-    array-share-prefix-whole
+    array-share-prefix-integers
     slice-aggregate-is-admitted
     is-admitted-requires
     no-configuration-requires-4

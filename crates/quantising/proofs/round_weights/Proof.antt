@@ -12,7 +12,7 @@ use lib.Ieee.{Float, nan}
 use mir.Facts.{toZ-ofZ}
 use mir.Syntax.{w32, w64}
 use mir.Val.{toZ, ofZ, SFits}
-use Rattle.floats.specs.Wholes.{roundedOf, holds}
+use Rattle.floats.specs.Integers.{roundedOf, holds}
 use Rattle.floats.proofs.Holding.{Handed, handed, outside, holds-mag}
 use Rattle.quantising.specs.Scale.{_⊗_}
 use Rattle.quantising.specs.Steps.{weightOf, weightsHold}
@@ -42,8 +42,8 @@ array-read-round-away c = search needs
 round-away-requires : tie.Need-round-away-requires Inv-loop μ-loop
 round-away-requires c κs = search needs
 
-enum-known-whole : tie.Need-enum-known-whole Inv-loop μ-loop
-enum-known-whole c = search needs
+enum-known-integer : tie.Need-enum-known-integer Inv-loop μ-loop
+enum-known-integer c = search needs
 
 enum-told : tie.Need-enum-told Inv-loop μ-loop
 enum-told c = search needs
@@ -69,10 +69,10 @@ module _ (c : tie.After-known-told Inv-loop μ-loop) where
   x = getD (m .before .before .before .args .t1) (m .before .before .loop .i) nan ⊗ m .before .before .before .args .factor
 
   abbrev v : ℤ
-  v = c .before .whole .given .0 .0
+  v = c .before .integer .given .0 .0
 
   rule : Handed 32 x (roundedOf x) v
-  rule = handed 32 x (roundedOf x) v (sym (c .before .whole .given .1) ∙ m .round-away .ensures)
+  rule = handed 32 x (roundedOf x) v (sym (c .before .integer .given .1) ∙ m .round-away .ensures)
 
   fits-64 : SFits w64 v
   fits-64 = record { sfits = c .known-told .given .0 .1 }
@@ -139,7 +139,7 @@ round-weights-spec =
     mul-round-away
     array-read-round-away
     round-away-requires
-    enum-known-whole
+    enum-known-integer
     enum-told
     returns
     cast-rounded

@@ -1,4 +1,4 @@
--- `rounding::cut` meets its contract: the parts' whole part, with their sign, is the integer of the exact rule.
+-- `rounding::cut` meets its contract: the integer part of the parts, with their sign, is the integer of the exact rule.
 use mathlib.Core.Path.{sym, ap, _∙_}
 use borrow.Author.Tests.{not-true, not-false}
 use Rattle.floats.proofs.Patterns.{yes}
@@ -17,8 +17,8 @@ returns c =
 unpack-requires : tie.Need-unpack-requires
 unpack-requires c κs = yes (sym (c .before .is-finite .ensures) ∙ not-false _ (c .if1 .left))
 
-whole-part-requires : tie.Need-whole-part-requires
-whole-part-requires c κs = c .unpack .ensures .held
+integer-part-requires : tie.Need-integer-part-requires
+integer-part-requires c κs = c .unpack .ensures .held
 
 with-sign-requires : tie.Need-with-sign-requires
 with-sign-requires c κs = c .before .before .before .before .pre
@@ -29,7 +29,7 @@ returns-2 c =
     let u = p .before in
     let r = u .unpack .result in
     let s = u .before .before .before in
-    c .with-sign .ensures ∙ ap (fitted (s .args .bits) (r .negative)) (p .whole-part .ensures)
+    c .with-sign .ensures ∙ ap (fitted (s .args .bits) (r .negative)) (p .integer-part .ensures)
     ∙ cut-held (s .args .bits) (s .pre .0) (s .pre .1) (s .args .x) (r .negative) (r .digits) (r .shift) (u .unpack .ensures)
 
 pub cut-spec : {M : Type 1} → statement M
@@ -39,6 +39,6 @@ cut-spec =
     is-finite-requires
     returns
     unpack-requires
-    whole-part-requires
+    integer-part-requires
     with-sign-requires
     returns-2)

@@ -1,4 +1,4 @@
--- `rounding::round_away` meets its contract: the parts' nearest whole number, with their sign, is the integer of the exact rule.
+-- `rounding::round_away` meets its contract: the integer nearest to the parts, with their sign, is the integer of the exact rule.
 use mathlib.Core.Path.{sym, ap, _∙_}
 use borrow.Author.Tests.{not-true, not-false}
 use Rattle.floats.proofs.Patterns.{yes}
@@ -17,8 +17,8 @@ returns c =
 unpack-requires : tie.Need-unpack-requires
 unpack-requires c κs = yes (sym (c .before .is-finite .ensures) ∙ not-false _ (c .if1 .left))
 
-nearest-part-requires : tie.Need-nearest-part-requires
-nearest-part-requires c κs = c .unpack .ensures .held
+nearest-integer-requires : tie.Need-nearest-integer-requires
+nearest-integer-requires c κs = c .unpack .ensures .held
 
 with-sign-requires : tie.Need-with-sign-requires
 with-sign-requires c κs = c .before .before .before .before .pre
@@ -29,7 +29,7 @@ returns-2 c =
     let u = p .before in
     let r = u .unpack .result in
     let s = u .before .before .before in
-    c .with-sign .ensures ∙ ap (fitted (s .args .bits) (r .negative)) (p .nearest-part .ensures)
+    c .with-sign .ensures ∙ ap (fitted (s .args .bits) (r .negative)) (p .nearest-integer .ensures)
     ∙ rounded-held (s .args .bits) (s .pre .0) (s .pre .1) (s .args .x) (r .negative) (r .digits) (r .shift) (u .unpack .ensures)
 
 pub round-away-spec : {M : Type 1} → statement M
@@ -39,6 +39,6 @@ round-away-spec =
     is-finite-requires
     returns
     unpack-requires
-    nearest-part-requires
+    nearest-integer-requires
     with-sign-requires
     returns-2)

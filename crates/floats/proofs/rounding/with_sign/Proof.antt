@@ -2,18 +2,18 @@
 use mathlib.Core.Path.{_≡_, sym, ap, _∙_}
 use mathlib.Core.Bool.{Bool, true, false}
 use borrow.Author.Needs.{needs}
-use Rattle.floats.specs.declared.rounding.Whole.{Whole}
+use Rattle.floats.specs.declared.rounding.Integer.{Integer}
 use Rattle.floats.proofs.Signs.{fitted, below-zero, neg-cast, neg-at, neg-no, pos-cast, pos-at, pos-no}
 use Rattle.floats.proofs.rounding.with_sign.Statement.{statement}
 use Rattle.floats.proofs.rounding.with_sign.Tie as tie
 
 -- the sign that was tested, for the sign that was given
-below : (c : tie.Then1) (r : Whole) → (let a = c .before .args in r ≡ fitted (a .bits) true (a .size) → r ≡ fitted (a .bits) (a .negative) (a .size))
+below : (c : tie.Then1) (r : Integer) → (let a = c .before .args in r ≡ fitted (a .bits) true (a .size) → r ≡ fitted (a .bits) (a .negative) (a .size))
 below c r h =
     let a = c .before .args in
     h ∙ ap (λ (s : Bool). fitted (a .bits) s (a .size)) (sym (c .if1 .taken))
 
-above : (c : tie.Else1) (r : Whole) → (let a = c .before .args in r ≡ fitted (a .bits) false (a .size) → r ≡ fitted (a .bits) (a .negative) (a .size))
+above : (c : tie.Else1) (r : Integer) → (let a = c .before .args in r ≡ fitted (a .bits) false (a .size) → r ≡ fitted (a .bits) (a .negative) (a .size))
 above c r h =
     let a = c .before .args in
     h ∙ ap (λ (s : Bool). fitted (a .bits) s (a .size)) (sym (c .if1 .left))

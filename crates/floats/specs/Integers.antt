@@ -7,10 +7,10 @@ use lib.Ieee.{Float}
 use lib.Ieee.Scale.{finite}
 use lib.Ieee.Positive.{num, den}
 use Rattle.floats.specs.Values.{isNegative}
-use Rattle.floats.specs.declared.rounding.Whole.{Whole}
-use Rattle.floats.specs.declared.rounding.Whole.the-variants.{At, Outside}
+use Rattle.floats.specs.declared.rounding.Integer.{Integer}
+use Rattle.floats.specs.declared.rounding.Integer.the-variants.{At, Outside}
 
--- the whole number nearest to a / c, the greater of two that are as near
+-- the integer nearest to a / c, the greater of two that are as near
 abbrev pub halfUp : ℕ → ℕ → ℕ
 halfUp a c = (2 * a + c) / (2 * c)
 
@@ -35,5 +35,5 @@ inBits bits (negsuc n) = ltb n (2 ^ (bits - 1))
 abbrev pub holds : ℕ → Float → ℤ → Bool
 holds bits x z = finite x && inBits bits z
 
-unfoldable pub held : ℕ → Float → ℤ → Whole
+unfoldable pub held : ℕ → Float → ℤ → Integer
 held bits x z = cond (holds bits x z) (At z) Outside

@@ -1,4 +1,4 @@
--- The whole part of q * 2 ^ s / 2 ^ 1074, and the nearest whole number, as shifts of q work them out. 2 ^ 1074 is behind the name `one`: written out it is too long for a tactic.
+-- The integer part of q * 2 ^ s / 2 ^ 1074, and the nearest integer, as shifts of q work them out. 2 ^ 1074 is behind the name `one`: written out it is too long for a tactic.
 use mathlib.Core.Path.{_≡_, sym, ap, _∙_, subst}
 use Prim.Native.Nat.{ℕ, _+_, _-_, _*_, _/_, _%_, _^_, _≤_, _<_, min}
 use native.Mathlib.Nat.{le-trans, le-of-eq, lt-of-lt-of-le, lt-of-le-of-lt, mul-pos, mul-assoc, mul-comm, mul-left-comm, mul-le-mul, mul-le-mul-right, add-mul, div-eq-of-lt, le-div-iff-mul-le, mod-eq-of-lt, one-mul}
@@ -8,7 +8,7 @@ use lib.Dec.{lit≤, lit<}
 use lib.Pow.{pow-pos, pow-lt, pow-add, pow-mono, shl-lt, shl-exact, shl-shr, shr-le}
 use lib.Ieee.Nearest.{div-same}
 use Rattle.floats.specs.Values.{Digits}
-use Rattle.floats.specs.Wholes.{halfUp}
+use Rattle.floats.specs.Integers.{halfUp}
 
 -- ---- the cap
 at-cap : (v c : ℕ) → c ≤ v → c ≡ min v c
@@ -21,8 +21,8 @@ zero-under-cap : (v c : ℕ) → v ≡ 0 → 0 ≡ min v c
 zero-under-cap v c h = omega arith
 
 -- ---- halves
-halfUp-whole : (n one : ℕ) → 0 < one → halfUp (n * one) one ≡ n
-halfUp-whole n one p = ap (λ (k : ℕ). k / (2 * one)) (left n one) ∙ digits-div n (less one p)
+halfUp-of-integer : (n one : ℕ) → 0 < one → halfUp (n * one) one ≡ n
+halfUp-of-integer n one p = ap (λ (k : ℕ). k / (2 * one)) (left n one) ∙ digits-div n (less one p)
   where
     left : (n one : ℕ) → 2 * (n * one) + one ≡ n * (2 * one) + one
     left n one = ap (λ (k : ℕ). k + one) (mul-left-comm 2 n one)
@@ -55,13 +55,13 @@ halfUp-same n d a c D C e =
 
 module _ (q s : ℕ) (d : Digits q s) where
   -- ---- from 2 ^ 64 on
-  pub whole-above : 1086 ≤ s → 2 ^ 64 - 1 ≡ min (q * 2 ^ s / 2 ^ 1074) (2 ^ 64 - 1)
-  whole-above h =
+  pub part-above : 1086 ≤ s → 2 ^ 64 - 1 ≡ min (q * 2 ^ s / 2 ^ 1074) (2 ^ 64 - 1)
+  part-above h =
       at-cap (q * 2 ^ s / 2 ^ 1074) (2 ^ 64 - 1)
       (le-div-iff-mul-le (pow-pos 1074) .1
       (le-trans (mul-le-mul-right (2 ^ 1074) (lit≤ {m = 2 ^ 64 - 1} {n = 2 ^ 64} tt)) (le-trans (le-of-eq (sym (pow-add 2 64 1074) ∙ pow-add 2 52 1086)) (mul-le-mul (d .full (lt-of-lt-of-le (lit< tt) h)) (pow-mono h)))))
 
-  -- ---- whole as it stands
+  -- ---- an integer as it stands
   module _ (l : 1074 ≤ s) where
     moved : q * 2 ^ s ≡ q * 2 ^ (s - 1074) * 2 ^ 1074
     moved = ap (λ (k : ℕ). q * 2 ^ k) (sym (all s l)) ∙ ap (λ (k : ℕ). q * k) (pow-add 2 (s - 1074) 1074) ∙ sym (mul-assoc q (2 ^ (s - 1074)) (2 ^ 1074))
@@ -72,11 +72,11 @@ module _ (q s : ℕ) (d : Digits q s) where
     quotient : q * 2 ^ s / 2 ^ 1074 ≡ q * 2 ^ (s - 1074)
     quotient = ap (λ (k : ℕ). k / 2 ^ 1074) moved ∙ shl-shr (q * 2 ^ (s - 1074)) 1074
 
-    pub nearest-whole : q * 2 ^ s / 2 ^ 1074 ≡ halfUp (q * 2 ^ s) (2 ^ 1074)
-    nearest-whole = quotient ∙ sym (ap (λ (k : ℕ). halfUp k (2 ^ 1074)) moved ∙ halfUp-whole (q * 2 ^ (s - 1074)) (2 ^ 1074) (pow-pos 1074))
+    pub nearest-of-integer : q * 2 ^ s / 2 ^ 1074 ≡ halfUp (q * 2 ^ s) (2 ^ 1074)
+    nearest-of-integer = quotient ∙ sym (ap (λ (k : ℕ). halfUp k (2 ^ 1074)) moved ∙ halfUp-of-integer (q * 2 ^ (s - 1074)) (2 ^ 1074) (pow-pos 1074))
 
-    pub whole-left : s < 1086 → q * 2 ^ (s - 1074) % 2 ^ 64 ≡ min (q * 2 ^ s / 2 ^ 1074) (2 ^ 64 - 1)
-    whole-left h =
+    pub part-left : s < 1086 → q * 2 ^ (s - 1074) % 2 ^ 64 ≡ min (q * 2 ^ s / 2 ^ 1074) (2 ^ 64 - 1)
+    part-left h =
         shl-exact 53 (s - 1074) 64 (d .few) (room s h)
         ∙ under-cap (q * 2 ^ (s - 1074)) (lt-of-lt-of-le (shl-lt 53 (s - 1074) (d .few)) (pow-mono (room s h)))
         ∙ ap (λ (k : ℕ). min k (2 ^ 64 - 1)) (sym quotient)
@@ -92,8 +92,8 @@ module _ (q s : ℕ) (d : Digits q s) where
     twice : (a p : ℕ) → a < p → 2 * a < 2 * p
     twice a p h = omega arith
 
-    pub whole-below : 0 ≡ min (q * 2 ^ s / 2 ^ 1074) (2 ^ 64 - 1)
-    whole-below = zero-under-cap (q * 2 ^ s / 2 ^ 1074) (2 ^ 64 - 1) (div-eq-of-lt (small 1074 (omega arith)))
+    pub part-below : 0 ≡ min (q * 2 ^ s / 2 ^ 1074) (2 ^ 64 - 1)
+    part-below = zero-under-cap (q * 2 ^ s / 2 ^ 1074) (2 ^ 64 - 1) (div-eq-of-lt (small 1074 (omega arith)))
 
     pub nearest-below : 0 ≡ min (halfUp (q * 2 ^ s) (2 ^ 1074)) (2 ^ 64 - 1)
     nearest-below =
@@ -111,8 +111,8 @@ module _ (q s : ℕ) (d : Digits q s) where
         all : (s : ℕ) → s < 1074 → 1074 - s + s ≡ 1074
         all s h = omega arith
 
-    pub whole-right : q / 2 ^ k ≡ min (q * 2 ^ s / 2 ^ 1074) (2 ^ 64 - 1)
-    whole-right =
+    pub part-right : q / 2 ^ k ≡ min (q * 2 ^ s / 2 ^ 1074) (2 ^ 64 - 1)
+    part-right =
         under-cap (q / 2 ^ k) (lt-of-le-of-lt (shr-le q k) (lt-of-lt-of-le (d .few) (lit≤ tt)))
         ∙ ap (λ (n : ℕ). min n (2 ^ 64 - 1))
         (div-same q (2 ^ k) (q * 2 ^ s) (2 ^ 1074) (pow-pos k) (pow-pos 1074) (ap (λ (n : ℕ). q * n) split ∙ again q (2 ^ k) (2 ^ s)))

@@ -1,19 +1,19 @@
--- `rounding::nearest_part` meets its contract: a number with no digits to drop is whole already, and otherwise half is added before they go.
+-- `rounding::nearest_integer` meets its contract: a number with no digits to drop is an integer already, and otherwise half is added before they go.
 use mathlib.Core.Path.{ap, _∙_}
 use Prim.Native.Nat.{ℕ, _-_, _^_, min}
 use borrow.Author.Needs.{needs}
-use Rattle.floats.proofs.WholeParts.{nearest-whole, nearest-below, half-fits, nearest-right}
-use Rattle.floats.proofs.rounding.nearest_part.Statement.{statement}
-use Rattle.floats.proofs.rounding.nearest_part.Tie as tie
+use Rattle.floats.proofs.IntegerParts.{nearest-of-integer, nearest-below, half-fits, nearest-right}
+use Rattle.floats.proofs.rounding.nearest_integer.Statement.{statement}
+use Rattle.floats.proofs.rounding.nearest_integer.Tie as tie
 
-whole-part-requires : tie.Need-whole-part-requires
-whole-part-requires c κs = search needs
+integer-part-requires : tie.Need-integer-part-requires
+integer-part-requires c κs = search needs
 
 returns : tie.Need-returns
 returns c =
     let t = c .before in
     let a = t .before .args in
-    c .whole-part .ensures ∙ ap (λ (k : ℕ). min k (2 ^ 64 - 1)) (nearest-whole (a .digits) (a .shift) (t .before .pre) (t .if1 .taken))
+    c .integer-part .ensures ∙ ap (λ (k : ℕ). min k (2 ^ 64 - 1)) (nearest-of-integer (a .digits) (a .shift) (t .before .pre) (t .if1 .taken))
 
 returns-2 : tie.Need-returns-2
 returns-2 c =
@@ -42,11 +42,11 @@ returns-3 c =
     let a = c .before .before .args in
     nearest-right (a .digits) (a .shift) (c .before .before .pre) (c .if2 .left) (c .before .if1 .left)
 
-pub nearest-part-spec : {M : Type 1} → statement M
-nearest-part-spec =
+pub nearest-integer-spec : {M : Type 1} → statement M
+nearest-integer-spec =
     tie.close
     (tie.spec
-    whole-part-requires
+    integer-part-requires
     returns
     returns-2
     sub-dropped
