@@ -1,4 +1,4 @@
--- The float constants of the source are those of the definition: whole numbers as binary64 has them.
+-- The float constants of the source are those of the definition: integers as binary64 has them.
 use mathlib.Core.Path.{_≡_, refl}
 use lib.Ieee.{binary64, ofBits, ofInt}
 use Rattle.rule.specs.Numbers.{greatest, limit}

@@ -1,5 +1,5 @@
 -- Steps 5 and 6 never refuse: where steps 1 to 4 give a shift, each weight fits 32 bits, the bias fits 64, and the accumulator rule holds with room to spare.
--- By rounding each weight gains at most a half, so with U units to 1 the whole comes to 2 ^ q (M Σ|w| + |bias|) + 16 M U; the first part is at most three quarters of the limit.
+-- By rounding each weight gains at most a half, so with U units to 1 all comes to 2 ^ q (M Σ|w| + |bias|) + 16 M U; the first part is at most three quarters of the limit.
 use mathlib.Core.Path.{_≡_, refl, sym, ap, ap₂, _∙_, subst}
 use mathlib.Core.Bool.{Bool, true, false, _&&_}
 use mathlib.Core.List.{List, [], _∷_, map}
@@ -21,18 +21,20 @@ use Rattle.floats.proofs.Unpacking.{packed}
 use Rattle.kinds.specs.declared.Width.{Width}
 use Rattle.kinds.specs.declared.Width.the-variants.{Eight, Sixteen, ThirtyTwo}
 use Rattle.kinds.specs.Widths.{bitsOf}
+use Rattle.kinds.specs.declared.Shift.{Shift}
+use Rattle.record.specs.Widths.{greatestShift}
 use Rattle.rule.specs.Numbers.{greatest, limit}
 use Rattle.rule.specs.Prediction.{sumAbs, admitted}
 use Rattle.quantising.specs.Scale.{_⊗_, float, total, absTotal, floatBias, divisor, quotient, scaleOf}
-use Rattle.quantising.specs.Steps.{weightOf, weightsHold, biasOf, biasHolds, found, settled, outcome}
+use Rattle.quantising.specs.Steps.{weightOf, weightsHold, biasOf, biasHolds, found, completed, outcome}
 use Rattle.quantising.specs.declared.scaling.Scale.the-variants.{By}
 use Rattle.quantising.proofs.Unsigned.{absTotal-unsigned}
 use Rattle.quantising.proofs.Divisors.{limit-float, divisor-positive, divisor-size, quotient-positive}
 use Rattle.quantising.proofs.Units.{Counts, integer-float, scale-exact}
 use Rattle.quantising.proofs.Sums.{unitsOf, units-packed, totalUnits, Held, Finite, terms-finite, divisor-bounded, bias-finite}
 use Rattle.quantising.proofs.Quotients.{power-not-above, shift-bound}
-use Rattle.quantising.proofs.Settling.{is-admitted, past-scale}
-use Rattle.quantising.proofs.Scales.{reached, shift-fits}
+use Rattle.quantising.proofs.Completing.{is-admitted, past-scale}
+use Rattle.quantising.proofs.Choosing.{reached, shift-fits}
 
 -- ---- a size with its sign
 natAbs-signed : (s : Bool) (n : ℕ) → natAbs (signed s n) ≡ n
@@ -61,7 +63,7 @@ rounded-size n d X U D e =
 cut-size : (n d X U : ℕ) → 0 < d → n * U ≡ X * d → n / d * U ≤ X
 cut-size n d X U D e = le-of-mul-le-mul-right (le-trans (le-of-eq (mul-right-comm (n / d) U d)) (le-trans (mul-le-mul-right U (div-mul-le-self n d)) (le-of-eq e))) D
 
--- ---- what a width leaves room for: v is the limit as f64, a whole number
+-- ---- what a width leaves room for: v is the limit as f64, an integer
 pub record Room (W v : ℕ) : Type 0 where
   pub value : num (float (limit W)) ≡ v * den (float (limit W))
   pub exact : greatest W ≤ 2 ^ 53
@@ -162,7 +164,7 @@ all-room c s m v lim U e y n p few h k l t =
     within : (a b lim : ℕ) → 4 * a ≤ b → b ≤ 4 * lim + 3 → a ≤ lim
     within a b lim h t = omega arith
 
-module _ (W v q : ℕ) (r : Room W v) (small : q ≤ 31) where
+module _ (W v q : ℕ) (r : Room W v) (small : q ≤ greatestShift) where
   abbrev M : ℕ
   M = greatest W
 
@@ -178,7 +180,7 @@ module _ (W v q : ℕ) (r : Room W v) (small : q ≤ 31) where
       (scale-exact x p (k .negative) (k .digits) (k .shift) q (k .parts .value) (k .parts .held .few) (integer-float (2 ^ q) (pow-le q small))
       (subst (λ (n : ℕ). n * 2 ^ q < 2 ^ 2098) is (below (unitsOf x * 2 ^ q) (v * 2 ^ 1074) (2 ^ 1137) (2 ^ 2098) h (le-trans (mul-le-mul-right (2 ^ 1074) (r .top)) (le-of-eq (sym (pow-add 2 63 1074)))) (pow-lt {i = 1137} {j = 2098} (lit< tt)))))
     where
-      pow-le : (q : ℕ) → q ≤ 31 → 2 ^ q ≤ 2 ^ 53
+      pow-le : (q : ℕ) → q ≤ greatestShift → 2 ^ q ≤ 2 ^ 53
       pow-le q h = pow-mono {i = q} {j = 53} (le-trans h (lit≤ tt))
 
       below : (x y z b : ℕ) → 4 * x ≤ 3 * y → y ≤ z → z < b → x < b
@@ -271,20 +273,21 @@ both-room e m b s D c h k =
     go a t c h k = omega arith
 
 -- ---- the theorem: a shift of steps 1 to 4 always leads to a configuration
-pub never-refused : (w : Width) (ws : List Float) (centre : ℕ) (c : Float) (q : ℕ) (b : Float) → Held ws → length ws ≤ 32 → By q b ≡ scaleOf (bitsOf w) ws centre c
-    → found q (biasOf (float (2 ^ q)) b) (map (weightOf (float (2 ^ q))) ws) ≡ outcome (bitsOf w) ws centre c
+pub never-refused : (w : Width) (ws : List Float) (centre : ℕ) (c : Float) (s : Shift) (b : Float) → Held ws → length ws ≤ 32 → By s b ≡ scaleOf (bitsOf w) ws centre c
+    → found s (biasOf (float (2 ^ s .0)) b) (map (weightOf (float (2 ^ s .0))) ws) ≡ outcome (bitsOf w) ws centre c
 unfolding absTotal floatBias quotient
-never-refused w ws centre c q b h n s =
+never-refused w ws centre c s b h n by =
     let W = bitsOf w in
+    let q = s .0 in
     let v = limitAs w in
     let m = room w in
     let bias = floatBias (total ws) centre c in
     let S = absTotal ws in
     let d = divisor W S bias in
     let L = float (limit W) in
-    let t = reached W ws centre c q b s in
-    let small = shift-fits W ws centre c q b s .recorded in
-    let power = power-not-above W (quotient W d) bias q b (t .scale-is) in
+    let t = reached W ws centre c s b by in
+    let small = shift-fits W ws centre c s b by .recorded in
+    let power = power-not-above W (quotient W d) bias s b (t .scale-is) in
     let F : T (fits binary64 bias) = add-fits binary64 _ c in
     let f = bias-finite W S bias (t .divisor-finite) in
     let terms = terms-finite (float 0) ws (t .absTotal-finite) in
@@ -295,7 +298,7 @@ never-refused w ws centre c q b h n s =
     let both = both-room (totalUnits ws) (greatest W) (unitsOf bias) (2 ^ q) (D .count) (v * 2 ^ 1074) (D .bound) shifted in
     let weights = first (totalUnits ws * 2 ^ q * greatest W) (unitsOf bias * 2 ^ q) (3 * (v * 2 ^ 1074)) both in
     let rest = second (totalUnits ws * 2 ^ q * greatest W) (unitsOf bias * 2 ^ q) (3 * (v * 2 ^ 1074)) both in
-    ap (λ (x : Float). found q (biasOf (float (2 ^ q)) x) (map (weightOf (float (2 ^ q))) ws)) (power .1)
-    ∙ is-admitted W ws q bias (weights-hold W v q m small ws h terms weights) (bias-holds W v q m small bias F f rest) (rule-holds W v q m small ws bias h terms F f n both)
-    ∙ ap (λ (x : Float). settled W ws (By q x)) (sym (power .1))
-    ∙ past-scale W ws centre c q b s
+    ap (λ (x : Float). found s (biasOf (float (2 ^ q)) x) (map (weightOf (float (2 ^ q))) ws)) (power .1)
+    ∙ is-admitted W ws s bias (weights-hold W v q m small ws h terms weights) (bias-holds W v q m small bias F f rest) (rule-holds W v q m small ws bias h terms F f n both)
+    ∙ ap (λ (x : Float). completed W ws (By s x)) (sym (power .1))
+    ∙ past-scale W ws centre c s b by

@@ -13,25 +13,24 @@ use lib.Ieee.Exact.{HasValue, round-exact}
 use lib.Ieee.Order.{round-mono}
 use lib.Ieee.Positive.{num, den, positive, den-pos, own-value, positive-of-value, values-of-le}
 use Rattle.floats.specs.Values.{exponentOf}
+use Rattle.kinds.specs.declared.Shift.{Shift}
+use Rattle.record.specs.Widths.{greatestShift}
 use Rattle.rule.specs.Numbers.{accumulator}
-use Rattle.quantising.specs.Scale.{_⊘_, greatestShift, scaleAt}
+use Rattle.quantising.specs.Scale.{_⊘_, leastShift, scaleAt}
 use Rattle.quantising.specs.declared.scaling.Scale.the-variants.{By}
 use Rattle.quantising.proofs.Divisors.{quotient-of}
-use Rattle.quantising.proofs.Scales.{same-shift, not-by}
+use Rattle.quantising.proofs.Choosing.{by-once, not-by}
 use Rattle.quantising.proofs.Units.{Counts}
 
 -- ---- 2 ^ (q + 1) is not above x
-same-bias : (q r : ℕ) (a b : Float) → By q a ≡ By r b → a ≡ b
-same-bias q r a b h = cc
-
 -- the exponent, and with it the binary digits of x in units
-shift-size : (W : ℕ) (e : ℤ) (bias : Float) (q : ℕ) (b : Float) → By q b ≡ scaleAt W e bias → (less : ℕ) × (e ≡ pos (suc less)) × (q ≤ less) × (b ≡ bias)
+shift-size : (W : ℕ) (e : ℤ) (bias : Float) (q : Shift) (b : Float) → By q b ≡ scaleAt W e bias → (less : ℕ) × (e ≡ pos (suc less)) × (q .0 ≤ less) × (b ≡ bias)
 unfolding scaleAt
 shift-size W (pos (suc less)) bias q b h =
-    let e = same-shift q (min (min less greatestShift) (accumulator W - 1)) b bias h in
-    (less, refl, subst (λ (k : ℕ). k ≤ less) (sym e) (least less (accumulator W - 1)), same-bias q (min (min less greatestShift) (accumulator W - 1)) b bias h)
+    let e = by-once q (leastShift W less) b bias h in
+    (less, refl, subst (λ (k : ℕ). k ≤ less) (sym (ap (λ (s : Shift). s .0) (e .0))) (least less (accumulator W - 1)), e .1)
   where
-    least : (n a : ℕ) → min (min n 31) a ≤ n
+    least : (n a : ℕ) → min (min n greatestShift) a ≤ n
     least n a = omega arith
 shift-size W (pos zero) bias q b h = absurd (not-by q b h)
 shift-size W (negsuc n) bias q b h = absurd (not-by q b h)
@@ -54,24 +53,25 @@ minus-size n less h = go (leb 1075 n) h
         none : _≡_ {A = ℕ} 0 1 → ⊥
         none e = omega arith
 
-pub power-not-above : (W : ℕ) (x bias : Float) (q : ℕ) (b : Float) → By q b ≡ scaleAt W (exponentOf x) bias → (2 ^ (q + 1) * den x ≤ num x) × (b ≡ bias)
+pub power-not-above : (W : ℕ) (x bias : Float) (s : Shift) (b : Float) → By s b ≡ scaleAt W (exponentOf x) bias → (2 ^ (s .0 + 1) * den x ≤ num x) × (b ≡ bias)
 unfolding exponentOf
-power-not-above W x bias q b h =
-    let s = shift-size W (exponentOf x) bias q b h in
-    let less = s .0 in
-    let reached : 2 ^ (1075 + less) ≤ num x * 2 ^ 1074 / den x = size-reaches (num x * 2 ^ 1074 / den x) (1075 + less) (minus-size (size (num x * 2 ^ 1074 / den x)) less (s .1)) in
+power-not-above W x bias s b h =
+    let q = s .0 in
+    let at = shift-size W (exponentOf x) bias s b h in
+    let less = at .0 in
+    let reached : 2 ^ (1075 + less) ≤ num x * 2 ^ 1074 / den x = size-reaches (num x * 2 ^ 1074 / den x) (1075 + less) (minus-size (size (num x * 2 ^ 1074 / den x)) less (at .1)) in
     let crossed : 2 ^ (1075 + less) * den x ≤ num x * 2 ^ 1074 = le-div-iff-mul-le (den-pos x) .0 reached in (
       le-of-mul-le-mul-right
-          (le-trans (le-of-eq (mul-right-comm (2 ^ (q + 1)) (den x) (2 ^ 1074) ∙ ap (λ (k : ℕ). k * den x) (sym (pow-add 2 (q + 1) 1074)))) (le-trans (mul-le-mul-right (den x) (pow-mono (more q less (s .2)))) crossed))
+          (le-trans (le-of-eq (mul-right-comm (2 ^ (q + 1)) (den x) (2 ^ 1074) ∙ ap (λ (k : ℕ). k * den x) (sym (pow-add 2 (q + 1) 1074)))) (le-trans (mul-le-mul-right (den x) (pow-mono (more q less (at .2)))) crossed))
           (pow-pos 1074),
-      s .3,
+      at .3,
     )
   where
     more : (q l : ℕ) → q ≤ l → q + 1 + 1074 ≤ 1075 + l
     more q l h = omega arith
 
 -- ---- so the fraction that x was rounded from is above three quarters of it
-module _ (a b q : ℕ) (B : 0 < b) (small : q ≤ 31) where
+module _ (a b q : ℕ) (B : 0 < b) (small : q ≤ greatestShift) where
   abbrev x : Float
   x = round binary64 false a b
 
@@ -83,7 +83,7 @@ module _ (a b q : ℕ) (B : 0 < b) (small : q ≤ 31) where
       round-exact binary64 false (3 * 2 ^ (q + 1)) 4 3 (q + 1073) (lit< tt) (lit< tt) (lt-of-lt-of-le (shl-lt 2 (q + 1073) (lit< tt)) (pow-mono {i = 2 + (q + 1073)} {j = 2098} (few q small)))
       (mul-assoc 3 (2 ^ (q + 1)) (2 ^ 1074) ∙ ap (λ (k : ℕ). 3 * k) (sym (pow-add 2 (q + 1) 1074) ∙ ap (λ (n : ℕ). 2 ^ n) (same q) ∙ pow-add 2 (q + 1073) 2) ∙ sym (mul-assoc 3 (2 ^ (q + 1073)) 4))
     where
-      few : (q : ℕ) → q ≤ 31 → 2 + (q + 1073) ≤ 2098
+      few : (q : ℕ) → q ≤ greatestShift → 2 + (q + 1073) ≤ 2098
       few q h = omega arith
 
       same : (q : ℕ) → q + 1 + 1074 ≡ q + 1073 + 2
@@ -101,8 +101,8 @@ module _ (a b q : ℕ) (B : 0 < b) (small : q ≤ 31) where
       clash : (n r : ℕ) → 0 < r → r ≤ n → n * 4 ≤ 3 * r → ⊥
       clash n r a b c = omega arith
 
--- ---- with v for the limit as a whole number and D for the divisor in units
-pub shift-bound : (L d : Float) (v D q : ℕ) → q ≤ 31 → T (positive L) → num L ≡ v * den L → T (positive d) → den d ≤ num d → Counts d D → T (positive (L ⊘ d)) → 2 ^ (q + 1) * den (L ⊘ d) ≤ num (L ⊘ d) → 3 * (2 ^ q * D) ≤ 2 * (v * 2 ^ 1074)
+-- ---- with v for the limit as an integer and D for the divisor in units
+pub shift-bound : (L d : Float) (v D q : ℕ) → q ≤ greatestShift → T (positive L) → num L ≡ v * den L → T (positive d) → den d ≤ num d → Counts d D → T (positive (L ⊘ d)) → 2 ^ (q + 1) * den (L ⊘ d) ≤ num (L ⊘ d) → 3 * (2 ^ q * D) ≤ 2 * (v * 2 ^ 1074)
 shift-bound L d v D q small l e p g c r h =
     let is = quotient-of L d l p in
     let a = num L * den d in

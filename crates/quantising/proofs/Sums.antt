@@ -1,6 +1,6 @@
 -- The divisor of step 2 against the exact figure: eight ninths of M times the exact sum of the absolute weights, plus the absolute float bias, are at most the divisor.
 use mathlib.Core.Path.{_≡_, refl, sym, ap, _∙_, subst}
-use mathlib.Core.Bool.{Bool, true, false}
+use mathlib.Core.Bool.{true, false}
 use mathlib.Core.List.{List, [], _∷_, map}
 use Prim.Native.Nat.{ℕ, suc, _+_, _*_, _/_, _^_, _≤_}
 use native.Mathlib.Nat.{mul-div-cancel}
@@ -8,11 +8,10 @@ use native.Mathlib.Omega.{arith}
 use lib.Dec.{T}
 use lib.ListN.{length}
 use lib.Ieee.{Float, nan, inf, fin, binary64, add, ofInt, fits}
-use lib.Ieee.Exact.{HasValue}
 use lib.Ieee.Positive.{num, den, den-pos}
 use lib.Ieee.Scale.{finite}
 use Rattle.floats.specs.Values.{magnitude}
-use Rattle.floats.proofs.Unpacking.{Packed, packed}
+use Rattle.floats.proofs.Unpacking.{value-size, Packed, packed}
 use Rattle.rule.specs.Numbers.{greatest}
 use Rattle.quantising.specs.Scale.{_⊕_, _⊗_, float, sumFrom, absTotal, divisor}
 use Rattle.quantising.proofs.Unsigned.{Unsigned, float-unsigned, magnitude-unsigned, add-unsigned, mul-unsigned, absTotal-unsigned}
@@ -23,19 +22,14 @@ use Rattle.quantising.proofs.Losses.{Under, under-start, under-round, u
 unfoldable pub unitsOf : Float → ℕ
 unitsOf x = num x * 2 ^ 1074 / den x
 
-value-size : (x : Float) (s : Bool) (a : ℕ) → HasValue x s a (2 ^ 1074) → num x * 2 ^ 1074 ≡ a * den x
-value-size nan s a v = absurd v
-value-size (inf t) s a v = absurd v
-value-size (fin t m e) s a v = v .1
-
 pub units-packed : (x : Float) (p : Packed x) → unitsOf x ≡ p .digits * 2 ^ p .shift
 unfolding unitsOf
-units-packed x p = ap (λ (n : ℕ). n / den x) (value-size x (p .negative) (p .digits * 2 ^ p .shift) (p .parts .value)) ∙ mul-div-cancel (p .digits * 2 ^ p .shift) (den-pos x)
+units-packed x p = ap (λ (n : ℕ). n / den x) (value-size x (p .negative) (p .digits * 2 ^ p .shift) (2 ^ 1074) (p .parts .value)) ∙ mul-div-cancel (p .digits * 2 ^ p .shift) (den-pos x)
 
 pub counted : (x : Float) → T (fits binary64 x) → T (finite x) → Counts x (unitsOf x)
 counted x F f =
     let p = packed x F f in
-    record { is-finite = f; size-is = value-size x (p .negative) (p .digits * 2 ^ p .shift) (p .parts .value) ∙ ap (λ (n : ℕ). n * den x) (sym (units-packed x p)) }
+    record { is-finite = f; size-is = value-size x (p .negative) (p .digits * 2 ^ p .shift) (2 ^ 1074) (p .parts .value) ∙ ap (λ (n : ℕ). n * den x) (sym (units-packed x p)) }
 
 counted-magnitude : (x : Float) (n : ℕ) → Counts x n → Counts (magnitude x) n
 unfolding magnitude

@@ -92,11 +92,11 @@ add-near (fin false m e) (fin false n g) X Y u v c d f =
     (cross-add (m * up e) (n * up g) X Y (2 ^ 1074) (down e) (down g) (c .size-is) (d .size-is)))
     f
 
--- ---- a product with a whole number
+-- ---- a product with an integer
 cross-mul : (a b X M U p q : ℕ) → a * U ≡ X * p → b ≡ M * q → a * b * U ≡ X * M * (p * q)
 cross-mul a b X M U p q e f = mul-right-comm a b U ∙ ap₂ (λ (x y : ℕ). x * y) e f ∙ mul-mul-mul-comm X p M q
 
--- y is the whole number M
+-- y is the integer M
 pub record IsInteger (y : Float) (M : ℕ) : Type 0 where
   pub value : HasValue y false M 1
 

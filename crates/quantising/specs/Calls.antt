@@ -1,55 +1,53 @@
--- What a call of quantising answers and leaves: tests 1, 4 and 6 in this order, then the six steps' numbers, or 0 and the slice as it was.
-use mathlib.Core.Bool.{not}
+-- What a call of quantising answers and leaves: tests 1, 4 and 6 in this order. Beside a refusal the numbers are 0 and the lent weights as they were.
+use mathlib.Core.Bool.{not, _&&_}
 use mathlib.Core.List.{List}
 use Prim.Native.Nat.{ℕ}
 use lib.Dec.{eqb}
+use lib.Ieee.{Float}
 use lib.IntN.{ℤ, pos}
 use lib.ListN.{length, take}
 use Rattle.kinds.specs.declared.Answer.{Answer}
 use Rattle.kinds.specs.declared.Answer.the-variants.{Done, BadOrder, BadLength, NoConfiguration}
+use Rattle.kinds.specs.declared.Shift.{Shift}
 use Rattle.kinds.specs.Answers.{refuse, whenDone}
 use Rattle.rule.specs.Refusals.{orderFits}
 use Rattle.quantising.specs.declared.Fitted.{Fitted}
 use Rattle.quantising.specs.declared.Quantised.{Quantised}
 use Rattle.quantising.specs.Steps.{Outcome, none, found, outcome}
 
-abbrev pub answerOf : Outcome → Answer
-answerOf none = NoConfiguration
-answerOf (found q bias ws) = Done
+-- what a call hands back, with the lent weights at exit
+pub record Leaves : Type 0 where
+  pub answer : Answer
+  pub shift : Shift
+  pub bias : ℤ
+  pub weights : List ℤ
 
-abbrev pub shiftOf : Outcome → ℕ
-shiftOf none = 0
-shiftOf (found q bias ws) = q
+abbrev pub left : Quantised → List ℤ → Leaves
+left r weights = record { answer = r .answer; shift = r .shift; bias = r .bias; weights = weights }
 
-abbrev pub biasOf : Outcome → ℤ
-biasOf none = pos 0
-biasOf (found q bias ws) = bias
+abbrev pub doneWith : Shift → ℤ → Quantised
+doneWith q bias = record { answer = Done; shift = q; bias = bias }
 
--- `kept` where nothing was found
-abbrev pub weightsOf : Outcome → List ℤ → List ℤ
-weightsOf none kept = kept
-weightsOf (found q bias ws) kept = ws
+abbrev pub refusedWith : Answer → Quantised
+refusedWith a = record { answer = a; shift = record { 0 = 0 }; bias = pos 0 }
 
--- the six steps at the first k places of the fitted weights
-abbrev pub outcomeAt : ℕ → Fitted → ℕ → Outcome
-outcomeAt W f centre = outcome W (take (f .order .0) (f .weights)) centre (f .bias)
+-- tests 1 and 4: k is the order, `given` the number of fitted weights, and `places` that of the lent places
+abbrev pub tested : ℕ → ℕ → ℕ → Answer
+tested k given places =
+    refuse (not (orderFits k)) BadOrder
+    (refuse (not (eqb given k && eqb places k)) BadLength Done)
 
--- k is the order, and `places` the length of the lent slice
-unfoldable pub refusal : ℕ → ℕ → Outcome → Answer
-refusal k places o = refuse (not (orderFits k)) BadOrder (refuse (not (eqb places k)) BadLength (answerOf o))
+-- test 6: what the six steps come to
+abbrev pub concluded : List ℤ → Outcome → Leaves
+concluded entry none = left (refusedWith NoConfiguration) entry
+concluded entry (found q bias weights) = left (doneWith q bias) weights
 
-abbrev pub handedBack : Answer → Outcome → Quantised
-handedBack answer o = record { answer = answer; shift = record { 0 = whenDone answer (shiftOf o) 0 }; bias = whenDone answer (biasOf o) (pos 0) }
+-- a call with the list of fitted weights and the centred bias c; `entry` is the lent slice
+unfoldable pub quantised : ℕ → ℕ → List Float → ℕ → Float → List ℤ → Leaves
+quantised W k fitted centre c entry =
+    let answer = tested k (length fitted) (length entry) in
+    whenDone answer (concluded entry (outcome W fitted centre c)) (left (refusedWith answer) entry)
 
-abbrev pub leftIn : Answer → Outcome → List ℤ → List ℤ
-leftIn answer o entry = whenDone answer (weightsOf o entry) entry
-
-unfoldable pub quantised : ℕ → Fitted → ℕ → List ℤ → Quantised
-quantised W f centre entry =
-    let o = outcomeAt W f centre in
-    handedBack (refusal (f .order .0) (length entry) o) o
-
-unfoldable pub filled : ℕ → Fitted → ℕ → List ℤ → List ℤ
-filled W f centre entry =
-    let o = outcomeAt W f centre in
-    leftIn (refusal (f .order .0) (length entry) o) o entry
+-- a call with fitted weights by value, in the first k places of their array
+abbrev pub quantisedFitted : ℕ → Fitted → ℕ → List ℤ → Leaves
+quantisedFitted W f centre entry = quantised W (f .order .0) (take (f .order .0) (f .weights)) centre (f .bias) entry

@@ -1,4 +1,4 @@
--- Document 01, "Quantising float weights": steps 1 to 4, in their order, over the width W. ⊕ ⊖ ⊗ ⊘ are single binary64 operations.
+-- Quantising float weights: steps 1 to 4, in their order, over the width W. ⊕ ⊖ ⊗ ⊘ are single binary64 operations.
 use mathlib.Core.Bool.{Bool, true, false, _&&_}
 use mathlib.Core.List.{List, [], _∷_, map}
 use Prim.Native.Nat.{ℕ, zero, suc, _-_, min}
@@ -6,6 +6,8 @@ use lib.IntN.{ℤ, pos, negsuc}
 use lib.Ieee.{Float, binary64, add, sub, mul, div, ofInt}
 use lib.Ieee.Scale.{finite}
 use Rattle.floats.specs.Values.{magnitude, exponentOf}
+use Rattle.kinds.specs.declared.Shift.{Shift}
+use Rattle.record.specs.Widths.{greatestShift}
 use Rattle.rule.specs.Numbers.{greatest, accumulator, limit}
 use Rattle.quantising.specs.declared.scaling.Scale.{Scale}
 use Rattle.quantising.specs.declared.scaling.Scale.the-variants.{Nothing, By}
@@ -51,11 +53,11 @@ unfoldable pub quotient : ℕ → Float → Float
 quotient W d = float (limit W) ⊘ d
 
 -- ---- 4. one less than e, held to the record's greatest shift and to A-1; below 0 there is no configuration
-abbrev pub greatestShift : ℕ
-greatestShift = 31
+abbrev pub leastShift : ℕ → ℕ → Shift
+leastShift W less = record { 0 = min (min less greatestShift) (accumulator W - 1) }
 
 unfoldable pub scaleAt : ℕ → ℤ → Float → Scale
-scaleAt W (pos (suc less)) bias = By (min (min less greatestShift) (accumulator W - 1)) bias
+scaleAt W (pos (suc less)) bias = By (leastShift W less) bias
 scaleAt W (pos zero) bias = Nothing
 scaleAt W (negsuc n) bias = Nothing
 

@@ -1,15 +1,12 @@
--- What the private functions of this crate say of one another, in the terms of the six steps.
+-- What private functions promise to one another, in the terms of the six steps.
 use mathlib.Core.Path.{_≡_}
 use mathlib.Core.Bool.{Bool, true}
 use mathlib.Core.List.{List, map}
 use Prim.Native.Nat.{ℕ}
-use lib.IntN.{ℤ, pos}
+use lib.IntN.{ℤ}
 use lib.ListN.{length, take}
 use lib.Ieee.{Float}
-use Rattle.kinds.specs.declared.Answer.{Answer}
-use Rattle.kinds.specs.declared.Answer.the-variants.{Done}
 use Rattle.quantising.specs.declared.Configuration.{Configuration}
-use Rattle.quantising.specs.declared.Quantised.{Quantised}
 use Rattle.quantising.specs.Steps.{Outcome, found, only, weightOf, weightsHold}
 
 -- fit says whether each weight times p is within 32 bits, and the first k places of the array are then those integers
@@ -21,9 +18,3 @@ pub record RoundedTo (p : Float) (k : ℕ) (ws : List Float) (fit : Bool) (array
 -- the first k weights of a configuration that was found
 abbrev pub asOutcome : ℕ → Configuration → Outcome
 asOutcome k r = only (r .found) (found (r .shift) (r .bias) (take k (r .weights)))
-
-abbrev pub doneWith : ℕ → ℤ → Quantised
-doneWith q bias = record { answer = Done; shift = record { 0 = q }; bias = bias }
-
-abbrev pub refusedWith : Answer → Quantised
-refusedWith a = record { answer = a; shift = record { 0 = 0 }; bias = pos 0 }

@@ -1,10 +1,11 @@
--- Document 01, "Quantising float weights": steps 5 and 6, over the width W; steps 1 to 4, which choose the shift, are Rattle.quantising.specs.Scale.
+-- Quantising float weights: steps 5 and 6, over the width W; steps 1 to 4, which choose the shift, are Rattle.quantising.specs.Scale.
 use mathlib.Core.Bool.{Bool, true, false, _&&_}
 use mathlib.Core.List.{List, [], _∷_, map}
 use Prim.Native.Nat.{ℕ, _^_}
 use lib.IntN.{ℤ}
 use lib.Ieee.{Float}
 use Rattle.floats.specs.Integers.{roundedOf, cutOf, holds}
+use Rattle.kinds.specs.declared.Shift.{Shift}
 use Rattle.rule.specs.Prediction.{admitted}
 use Rattle.quantising.specs.declared.scaling.Scale.{Scale}
 use Rattle.quantising.specs.declared.scaling.Scale.the-variants.{Nothing, By}
@@ -27,20 +28,20 @@ biasHolds p bias = holds 64 (bias ⊗ p) (biasOf p bias)
 -- what the steps come to: no configuration, or a shift, a bias and the weights
 pub data Outcome : Type 0 where
   none : Outcome
-  found : ℕ → ℤ → List ℤ → Outcome
+  found : Shift → ℤ → List ℤ → Outcome
 
 abbrev pub only : Bool → Outcome → Outcome
 only true o = o
 only false o = none
 
 -- ---- 6. the accumulator rule
-unfoldable pub settled : ℕ → List Float → Scale → Outcome
-settled W ws Nothing = none
-settled W ws (By q floatBias) =
-    let p = float (2 ^ q) in
+unfoldable pub completed : ℕ → List Float → Scale → Outcome
+completed W ws Nothing = none
+completed W ws (By q floatBias) =
+    let p = float (2 ^ q .0) in
     let weights = map (weightOf p) ws in
     let bias = biasOf p floatBias in
     only (weightsHold p ws) (only (biasHolds p floatBias) (only (admitted W bias weights) (found q bias weights)))
 
 unfoldable pub outcome : ℕ → List Float → ℕ → Float → Outcome
-outcome W ws centre c = settled W ws (scaleOf W ws centre c)
+outcome W ws centre c = completed W ws (scaleOf W ws centre c)

@@ -1,7 +1,7 @@
 // Fitted weights that are lent as a slice of floats.
 use kinds::Answer;
 use kinds::Order;
-use kinds::SampleCount;
+use kinds::WeightCount;
 ghost use mathlib.Core.Path.{_≡_};
 ghost use mathlib.Core.Bool.{not};
 ghost use Prim.Native.Nat.{_≤_};
@@ -12,7 +12,7 @@ ghost use Rattle.kinds.specs.Answers.{refuse};
 ghost use Rattle.rule.specs.Refusals.{orderFits};
 
 // Tests 1 and 4 of the fitted weights. Only those that pass have room in an array of 32.
-pub fn fitted_answer(order: Order, count: SampleCount) -> Answer
+pub fn fitted_answer(order: Order, count: WeightCount) -> Answer
     ensures { λ r. ⌜ r ≡ refuse (not (orderFits (order .0))) BadOrder (refuse (not (eqb (count .0) (order .0))) BadLength Done) ⌝ }
 {
     if !admission::limits::is_order(order) {

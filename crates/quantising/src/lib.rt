@@ -1,5 +1,5 @@
-// Quantising float weights: the tail of the Rust's `choose_config`, at any width. `scaling` has its steps 1 to 4; the rounding and the
-// cut of step 5 are worked out in whole numbers.
+// Quantising float weights: the tail of the Rust's `choose_config`, at any width. `scaling` has its steps 1 to 4; the integers of step 5
+// are worked out from the floats' bits.
 use crate::scaling::Scale;
 use crate::scaling::choose_scale;
 use floats::rounding::Integer;
@@ -13,8 +13,8 @@ ghost use Prim.Native.Nat.{_≤_};
 ghost use lib.ListN.{length, take};
 ghost use Rattle.kinds.specs.Widths.{bitsOf};
 ghost use Rattle.quantising.specs.Steps.{outcome};
-ghost use Rattle.quantising.specs.Calls.{quantised, filled};
-ghost use Rattle.quantising.specs.Stages.{RoundedTo, asOutcome, doneWith, refusedWith};
+ghost use Rattle.quantising.specs.Calls.{left, doneWith, refusedWith, quantisedFitted};
+ghost use Rattle.quantising.specs.Stages.{RoundedTo, asOutcome};
 
 // What fitting gives: a weight for each of the `order` samples looked back at, and the bias of the samples less their centre. The
 // places past the order are never read.
@@ -40,19 +40,20 @@ struct RoundedWeights {
 // What the six steps come to, the weights as above.
 struct Configuration {
     found: bool,
-    shift: u32,
+    shift: Shift,
     bias: i64,
     weights: [i32; 32],
 }
 
 // Step 5 of the weights.
-fn round_weights(weights: [f64; 32], order: usize, factor: f64) -> RoundedWeights
-    requires { ⌜ order ≤ 32 ⌝ }
-    ensures { λ r. ⌜ RoundedTo factor order weights (r .fit) (r .weights) ⌝ }
+fn round_weights(weights: [f64; 32], order: Order, factor: f64) -> RoundedWeights
+    requires { ⌜ order .0 ≤ 32 ⌝ }
+    ensures { λ r. ⌜ RoundedTo factor (order .0) weights (r .fit) (r .weights) ⌝ }
 {
+    let k = order.0;
     let mut rounded = [0i32; 32];
     let mut i = 0;
-    while i < order {
+    while i < k {
         let integer = floats::rounding::round_away(weights[i] * factor, 32);
         let Integer::At(w) = integer else {
             return RoundedWeights {
@@ -74,7 +75,7 @@ fn no_configuration() -> Configuration
 {
     Configuration {
         found: false,
-        shift: 0,
+        shift: Shift(0),
         bias: 0,
         weights: [0i32; 32],
     }
@@ -84,18 +85,18 @@ fn no_configuration() -> Configuration
 fn configure(
     width: Width,
     weights: [f64; 32],
-    order: usize,
+    order: Order,
     centre: u32,
     centred_bias: f64,
 ) -> Configuration
-    requires { ⌜ order ≤ 32 ⌝ }
-    ensures { λ r. ⌜ asOutcome order r ≡ outcome (bitsOf width) (take order weights) centre «centred_bias» ⌝ }
+    requires { ⌜ order .0 ≤ 32 ⌝ }
+    ensures { λ r. ⌜ asOutcome (order .0) r ≡ outcome (bitsOf width) (take (order .0) weights) centre «centred_bias» ⌝ }
 {
     let scale = choose_scale(width, weights, order, centre, centred_bias);
-    let Scale::By(q, float_bias) = scale else {
+    let Scale::By(shift, float_bias) = scale else {
         return no_configuration();
     };
-    let factor = (1u64 << q) as f64;
+    let factor = (1u64 << shift.0) as f64;
     let rounded = round_weights(weights, order, factor);
     if !rounded.fit {
         return no_configuration();
@@ -105,12 +106,13 @@ fn configure(
         return no_configuration();
     };
     let integers = rounded.weights;
-    if !admission::accumulator::is_admitted(width, bias, &integers[..order]) {
+    let k = order.0;
+    if !admission::accumulator::is_admitted(width, bias, &integers[..k]) {
         return no_configuration();
     }
     Configuration {
         found: true,
-        shift: q,
+        shift,
         bias,
         weights: integers,
     }
@@ -147,16 +149,17 @@ fn hand_back(config: Configuration) -> Quantised
     if !config.found {
         return refused(Answer::NoConfiguration);
     }
+    let shift = config.shift;
     Quantised {
         answer: Answer::Done,
-        shift: Shift(config.shift),
+        shift,
         bias: config.bias,
     }
 }
 
 // Tests 1, 4 and 6 in this order.
 pub fn quantise(width: Width, fitted: Fitted, centre: u32, weights: &mut [i32]) -> Quantised
-    ensures { λ r. ⌜ (r ≡ quantised (bitsOf width) fitted centre (now (weights .entry))) × (now (weights .exit) ≡ filled (bitsOf width) fitted centre (now (weights .entry))) ⌝ }
+    ensures { λ r. ⌜ left r (now (weights .exit)) ≡ quantisedFitted (bitsOf width) fitted centre (now (weights .entry)) ⌝ }
 {
     let order = fitted.order;
     if !admission::limits::is_order(order) {
@@ -166,7 +169,7 @@ pub fn quantise(width: Width, fitted: Fitted, centre: u32, weights: &mut [i32]) 
         return refused(Answer::BadLength);
     }
     let floats = fitted.weights;
-    let config = configure(width, floats, order.0, centre, fitted.bias);
+    let config = configure(width, floats, order, centre, fitted.bias);
     let integers = config.weights;
     fill(weights, config.found, integers);
     hand_back(config)

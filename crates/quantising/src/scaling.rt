@@ -1,21 +1,21 @@
 // The shift that float weights are scaled by: steps 1 to 4 of quantising, at any width.
 //
 // Each f64 line is one operation at a time, from the left, since float sums and products depend on their order. The exponent is worked
-// out in whole numbers.
+// out from the quotient's bits.
+use kinds::Order;
+use kinds::Shift;
 use kinds::Width;
+use record::MAX_CONV1_DELTA_QUANTIZATION;
 ghost use mathlib.Core.Path.{_≡_};
 ghost use lib.ListN.{take};
 ghost use Rattle.kinds.specs.Widths.{bitsOf};
 ghost use Rattle.rule.specs.Numbers.{greatest, limit};
 ghost use Rattle.quantising.specs.Scale.{float, total, absTotal, scaleOf};
 
-// The greatest shift that the delta record's field holds.
-const MAX_CONV1_DELTA_QUANTIZATION: usize = 31;
-
-// The shift and the float bias, before anything is made whole.
+// The shift and the float bias, before anything is rounded or cut.
 pub enum Scale {
     Nothing,
-    By(u32, f64),
+    By(Shift, f64),
 }
 
 // T and S of step 1.
@@ -47,12 +47,12 @@ fn accumulator_limit(width: Width) -> f64
 }
 
 // Step 1. An order above 32 takes the 32 weights that there are.
-fn add_up(weights: [f64; 32], order: usize) -> Totals
-    ensures { λ r. ⌜ (r .weight ≡ total (take order weights)) × (r .«abs_weight» ≡ absTotal (take order weights)) ⌝ }
+fn add_up(weights: [f64; 32], order: Order) -> Totals
+    ensures { λ r. ⌜ (r .weight ≡ total (take (order .0) weights)) × (r .«abs_weight» ≡ absTotal (take (order .0) weights)) ⌝ }
 {
     let mut weight = 0.0f64;
     let mut abs_weight = 0.0f64;
-    let end = slices::least(order, 32);
+    let end = slices::least(order.0, 32);
     let mut i = 0;
     while i < end {
         let w = weights[i];
@@ -68,11 +68,11 @@ fn add_up(weights: [f64; 32], order: usize) -> Totals
 pub fn choose_scale(
     width: Width,
     weights: [f64; 32],
-    order: usize,
+    order: Order,
     centre: u32,
     centred_bias: f64,
 ) -> Scale
-    ensures { λ r. ⌜ r ≡ scaleOf (bitsOf width) (take order weights) centre «centred_bias» ⌝ }
+    ensures { λ r. ⌜ r ≡ scaleOf (bitsOf width) (take (order .0) weights) centre «centred_bias» ⌝ }
 {
     let sums = add_up(weights, order);
     let total_weight = sums.weight;
@@ -93,8 +93,8 @@ pub fn choose_scale(
     if e < 1075 {
         return Scale::Nothing;
     }
-    let recorded = slices::least((e - 1075) as usize, MAX_CONV1_DELTA_QUANTIZATION);
+    let recorded = slices::least((e - 1075) as usize, MAX_CONV1_DELTA_QUANTIZATION as usize);
     let accumulated = (admission::limits::accumulator_bits(width) - 1) as usize;
     let quantization = slices::least(recorded, accumulated) as u32;
-    Scale::By(quantization, float_bias)
+    Scale::By(Shift(quantization), float_bias)
 }

@@ -4,7 +4,7 @@ use borrow.Author.Needs.{needs}
 use mir.Syntax.{w64}
 use mir.Val.{toZ, ofZ}
 use Rattle.kinds.specs.Answers.{numberOf}
-use Rattle.quantising.specs.declared.Quantised.{Quantised}
+use Rattle.quantising.specs.Calls.{Leaves}
 use Rattle.boundary_32.proofs.claspotter_quantise_32.Statement.{statement}
 use Rattle.boundary_32.proofs.claspotter_quantise_32.Tie as tie
 
@@ -21,9 +21,9 @@ returns : tie.Need-returns
 returns c =
     let q = c .before .before .before .quantise in
     let back : toZ w64 (ofZ w64 (q .result .bias)) ≡ q .result .bias = search needs in
-    let said = q .ensures .0 in (
-      c .number .ensures ∙ ap (λ (r : Quantised). numberOf (r .answer)) said,
-      (q .ensures .1, (ap (λ (r : Quantised). r .shift .0) said, back ∙ ap (λ (r : Quantised). r .bias) said)),
+    let said = q .ensures in (
+      c .number .ensures ∙ ap (λ (l : Leaves). numberOf (l .answer)) said,
+      (ap (λ (l : Leaves). l .weights) said, (ap (λ (l : Leaves). l .shift .0) said, back ∙ ap (λ (l : Leaves). l .bias) said)),
     )
 
 pub claspotter-quantise-32-spec : {M : Type 1} → statement M

@@ -5,13 +5,13 @@ use mathlib.Core.List.{List, _++_, append-nil}
 use Prim.Native.Nat.{ℕ, _-_, _≤_}
 use native.Mathlib.Omega.{arith}
 use borrow.Author.Needs.{needs}
+use borrow.Author.Tests.{not-true, not-false}
 use lib.IntN.{ℤ, pos}
 use lib.ListN.{length, getD, take, drop, length-set}
 use lib.Seq.{drop-length}
 use mir.Facts.{toZ-ofZ}
 use mir.Syntax.{w32}
 use mir.Val.{toZ, ofZ}
-use Rattle.floats.proofs.Compared.{not-was-true, not-was-false}
 use Rattle.rule.proofs.Filling.{Filled, fill-begin, fill-turn, fill-copied}
 use Rattle.quantising.proofs.fill.Statement.{statement}
 use Rattle.quantising.proofs.fill.Tie as tie
@@ -26,7 +26,7 @@ abbrev μ-loop : tie.MeasureT-loop
 returns : tie.Need-returns Inv-loop μ-loop
 returns c =
     let a = c .before .args in
-    sym (ap (λ (t : Bool). cond t (take (length (a .slice .now)) (a .t3)) (a .slice .now)) (not-was-true (a .found) (c .if1 .taken)))
+    sym (ap (λ (t : Bool). cond t (take (length (a .slice .now)) (a .t3)) (a .slice .now)) (not-true (a .found) (c .if1 .taken)))
 
 loop-holds : tie.Need-loop-holds Inv-loop μ-loop
 loop-holds c = (omega arith, search needs, c .before .good .1 .1 .0 .1 .0 .1, refl, fill-begin)
@@ -75,7 +75,7 @@ returns-2 c =
     ∙ ap (λ (j : ℕ). take j (a .t3) ++ drop j (a .slice .now)) e
     ∙ ap (λ (r : List ℤ). take (length (a .slice .now)) (a .t3) ++ r) (drop-length (a .slice .now))
     ∙ append-nil (take (length (a .slice .now)) (a .t3))
-    ∙ sym (ap (λ (b : Bool). cond b (take (length (a .slice .now)) (a .t3)) (a .slice .now)) (not-was-false (a .found) (t .if1 .left)))
+    ∙ sym (ap (λ (b : Bool). cond b (take (length (a .slice .now)) (a .t3)) (a .slice .now)) (not-false (a .found) (t .if1 .left)))
 
 pub fill-spec : {M : Type 1} → statement M
 fill-spec =

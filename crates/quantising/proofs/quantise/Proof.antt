@@ -1,20 +1,21 @@
 -- `quantising::quantise` meets its contract: the tests in their order, and the slice filled after the last of them.
-use mathlib.Core.Path.{_≡_, sym, ap, _∙_, subst}
+use mathlib.Core.Path.{_≡_, sym, ap, ap₂, _∙_, subst}
 use mathlib.Core.Bool.{true, cond}
 use mathlib.Core.List.{List}
 use Prim.Native.Nat.{ℕ, _≤_}
 use borrow.Author.Needs.{needs}
-use borrow.Author.Tests.{eq-eqb, ne-eqb}
+use borrow.Author.Tests.{not-true, not-false, eq-eqb, ne-eqb}
 use lib.Dec.{eqb}
 use lib.IntN.{ℤ}
-use lib.ListN.{length, take}
-use Rattle.floats.proofs.Compared.{not-was-true, not-was-false}
+use lib.Ieee.{Float}
+use lib.ListN.{length, take, length-map}
+use lib.Seq.{length-take-le}
 use Rattle.kinds.specs.Widths.{bitsOf}
 use Rattle.rule.proofs.Passing.{order-few}
 use Rattle.rule.specs.Refusals.{orderFits}
-use Rattle.quantising.specs.Steps.{Outcome, found}
-use Rattle.quantising.specs.Calls.{outcomeAt}
-use Rattle.quantising.proofs.Calling.{bad-order, bad-length, configured}
+use Rattle.quantising.specs.declared.Quantised.{Quantised}
+use Rattle.quantising.specs.Calls.{left}
+use Rattle.quantising.proofs.Calling.{bad-order, bad-places, configured}
 use Rattle.quantising.proofs.quantise.Statement.{statement}
 use Rattle.quantising.proofs.quantise.Tie as tie
 
@@ -26,11 +27,11 @@ module _ (c : tie.Start) where
   abbrev k : ℕ
   k = c .args .fitted .order .0
 
+  abbrev ws : List Float
+  ws = take k (c .args .fitted .weights)
+
   abbrev entry : List ℤ
   entry = c .args .weights .now
-
-  abbrev o : Outcome
-  o = outcomeAt W (c .args .fitted) (c .args .centre)
 
 -- ---- past the tests
 module _ (c : tie.Else1) where
@@ -38,13 +39,16 @@ module _ (c : tie.Else1) where
   start = c .before .before .before
 
   order-holds : orderFits (k start) ≡ true
-  order-holds = sym (c .before .is-order .ensures) ∙ not-was-false _ (c .if1 .left)
+  order-holds = sym (c .before .is-order .ensures) ∙ not-false _ (c .if1 .left)
 
   order-small : k start ≤ 32
   order-small = order-few (k start) order-holds
 
-length-holds : (c : tie.Else2) → eqb (length (entry (start (c .before .before)))) (k (start (c .before .before))) ≡ true
-length-holds c = eq-eqb _ _ (c .if2 .left)
+  -- an array of 32 has as many first places as the order says
+  given-holds : eqb (length (ws start)) (k start) ≡ true
+  given-holds =
+      let places : length (start .args .fitted .weights) ≡ 32 = simp length-map at (start .good .1 .0 .1 .1 .0 .1 .0 .1) in
+      eq-eqb _ _ (length-take-le (k start) (start .args .fitted .weights) (subst (λ (n : ℕ). k start ≤ n) (sym places) order-small))
 
 lengths-agree : (c : tie.Else2) → length (entry (start (c .before .before))) ≡ k (start (c .before .before))
 lengths-agree c = c .if2 .left
@@ -59,8 +63,8 @@ returns : tie.Need-returns
 returns c =
     let t = c .before in
     let s = t .before .before .before in
-    let l = bad-order (W s) (s .args .fitted) (s .args .centre) (entry s) (sym (t .before .is-order .ensures) ∙ not-was-true _ (t .if1 .taken)) in
-    (c .refused .ensures ∙ l .back, l .left)
+    ap (λ (r : Quantised). left r (entry s)) (c .refused .ensures)
+    ∙ bad-order (W s) (k s) (ws s) (s .args .centre) (s .args .fitted .bias) (entry s) (sym (t .before .is-order .ensures) ∙ not-true _ (t .if1 .taken))
 
 refused-requires-2 : tie.Need-refused-requires-2
 refused-requires-2 c κs = search needs
@@ -70,8 +74,8 @@ returns-2 c =
     let t = c .before in
     let e = t .before .before in
     let s = start e in
-    let l = bad-length (W s) (s .args .fitted) (s .args .centre) (entry s) (order-holds e) (ne-eqb _ _ (t .if2 .taken)) in
-    (c .refused2 .ensures ∙ l .back, l .left)
+    ap (λ (r : Quantised). left r (entry s)) (c .refused2 .ensures)
+    ∙ bad-places (W s) (k s) (ws s) (s .args .centre) (s .args .fitted .bias) (entry s) (order-holds e) (given-holds e) (ne-eqb _ _ (t .if2 .taken))
 
 configure-requires : tie.Need-configure-requires
 configure-requires c κs = order-small (c .before .before .before)
@@ -95,10 +99,8 @@ returns-3 c =
     let m = g .before .before in
     let e = m .before .before in
     let s = start e in
-    let l = configured (W s) (s .args .fitted) (s .args .centre) (entry s) (order-holds e) (length-holds m) r (g .configure .ensures) in (
-      c .hand-back .ensures ∙ l .back,
-      f .fill .ensures ∙ ap (λ (n : ℕ). cond (r .found) (take n (r .weights)) (entry s)) (lengths-agree m) ∙ l .left,
-    )
+    ap₂ left (c .hand-back .ensures) (f .fill .ensures ∙ ap (λ (n : ℕ). cond (r .found) (take n (r .weights)) (entry s)) (lengths-agree m))
+    ∙ configured (W s) (k s) (ws s) (s .args .centre) (s .args .fitted .bias) (entry s) (order-holds e) (given-holds e) (eq-eqb _ _ (lengths-agree m)) r (g .configure .ensures)
 
 pub quantise-spec : {M : Type 1} → statement M
 quantise-spec =

@@ -16,19 +16,18 @@ use Rattle.floats.specs.Integers.{roundedOf, holds}
 use Rattle.floats.proofs.Holding.{Handed, handed, outside, holds-mag}
 use Rattle.quantising.specs.Scale.{_⊗_}
 use Rattle.quantising.specs.Steps.{weightOf, weightsHold}
-use Rattle.quantising.proofs.Adding.{at-end}
-use Rattle.quantising.proofs.Turns.{hold-turn, round-turn}
+use Rattle.quantising.proofs.Turns.{at-end, hold-turn, round-turn}
 use Rattle.quantising.proofs.round_weights.Statement.{statement}
 use Rattle.quantising.proofs.round_weights.Tie as tie
 
 abbrev Inv-loop : tie.InvT-loop
-Inv-loop order factor weights rounded₀ i₀ rounded i =
-    (i ≤ order) × (order ≤ 32) × (length weights ≡ 32) × (length rounded ≡ 32)
-    × (weightsHold factor (drop i (take order weights)) ≡ weightsHold factor (take order weights))
-    × (take i rounded ++ map (weightOf factor) (drop i (take order weights)) ≡ map (weightOf factor) (take order weights))
+Inv-loop factor weights k rounded₀ i₀ rounded i =
+    (i ≤ k) × (k ≤ 32) × (length weights ≡ 32) × (length rounded ≡ 32)
+    × (weightsHold factor (drop i (take k weights)) ≡ weightsHold factor (take k weights))
+    × (take i rounded ++ map (weightOf factor) (drop i (take k weights)) ≡ map (weightOf factor) (take k weights))
 
 abbrev μ-loop : tie.MeasureT-loop
-μ-loop order factor weights rounded₀ i₀ rounded i = order - i
+μ-loop factor weights k rounded₀ i₀ rounded i = k - i
 
 loop-holds : tie.Need-loop-holds Inv-loop μ-loop
 loop-holds c = (search needs, search needs, c .good .0 .1 .0 .1, refl, refl, refl)
@@ -55,9 +54,9 @@ returns c =
     let a = m .before .before .before .args in
     let x = getD (a .t1) (l .i) nan ⊗ a .factor in
     let out : holds 32 x (roundedOf x) ≡ false = outside 32 x (roundedOf x) (sym (sym (m .round-away .ensures) ∙ c .enum-told .given .1)) in
-    let all : weightsHold (a .factor) (take (a .order) (a .t1)) ≡ false =
-    sym (l .inv .4) ∙ hold-turn (a .t1) (a .order) (l .i) (omega arith) (m .before .loop-test .taken) (a .factor)
-    ∙ ap (λ (b : Bool). b && weightsHold (a .factor) (drop (l .i + 1) (take (a .order) (a .t1)))) out in
+    let all : weightsHold (a .factor) (take (a .order .0) (a .t1)) ≡ false =
+    sym (l .inv .4) ∙ hold-turn (a .t1) (a .order .0) (l .i) (omega arith) (m .before .loop-test .taken) (a .factor)
+    ∙ ap (λ (b : Bool). b && weightsHold (a .factor) (drop (l .i + 1) (take (a .order .0) (a .t1)))) out in
     record { places = l .inv .3; fits = sym all; values = λ h. absurd (true≢false (sym h)) }
 
 -- the integer of this turn
@@ -102,28 +101,28 @@ loop-again : tie.Need-loop-again Inv-loop μ-loop
 loop-again c =
     let l = m c .before .before .loop in
     let a = m c .before .before .before .args in
-    let room : a .order ≤ length (a .t1) = omega arith in
+    let room : a .order .0 ≤ length (a .t1) = omega arith in
     let more = m c .before .loop-test .taken in (
       omega arith,
       l .inv .1,
       l .inv .2,
       length-set (l .rounded) (l .i) (toZ w32 (ofZ w32 (toZ w64 (ofZ w64 (v c))))) ∙ l .inv .3,
-      sym (hold-turn (a .t1) (a .order) (l .i) room more (a .factor) ∙ ap (λ (b : Bool). b && weightsHold (a .factor) (drop (l .i + 1) (take (a .order) (a .t1)))) (rule c .fits))
+      sym (hold-turn (a .t1) (a .order .0) (l .i) room more (a .factor) ∙ ap (λ (b : Bool). b && weightsHold (a .factor) (drop (l .i + 1) (take (a .order .0) (a .t1)))) (rule c .fits))
           ∙ l .inv .4,
-      round-turn (a .t1) (a .order) (l .i) room more (a .factor) (l .rounded) (toZ w32 (ofZ w32 (toZ w64 (ofZ w64 (v c))))) (omega arith) (back c ∙ rule c .is) ∙ l .inv .5,
+      round-turn (a .t1) (a .order .0) (l .i) room more (a .factor) (l .rounded) (toZ w32 (ofZ w32 (toZ w64 (ofZ w64 (v c))))) (omega arith) (back c ∙ rule c .is) ∙ l .inv .5,
     )
 
 returns-2 : tie.Need-returns-2 Inv-loop μ-loop
 returns-2 c =
     let l = c .before .loop in
     let a = c .before .before .args in
-    let e : l .i ≡ a .order = omega arith in
-    let done : drop (l .i) (take (a .order) (a .t1)) ≡ [] = at-end (a .t1) (a .order) (l .i) (omega arith) e in
+    let e : l .i ≡ a .order .0 = omega arith in
+    let done : drop (l .i) (take (a .order .0) (a .t1)) ≡ [] = at-end (a .t1) (a .order .0) (l .i) (omega arith) e in
     record {
       places = l .inv .3;
       fits = sym (ap (weightsHold (a .factor)) done) ∙ l .inv .4;
       values = λ h.
-          sym (append-nil (take (a .order) (l .rounded)))
+          sym (append-nil (take (a .order .0) (l .rounded)))
           ∙ ap (λ (j : ℕ). take j (l .rounded) ++ []) (sym e)
           ∙ ap (λ (r : List Float). take (l .i) (l .rounded) ++ map (weightOf (a .factor)) r) (sym done)
           ∙ l .inv .5;

@@ -1,4 +1,4 @@
--- `scaling::add_up` meets its contract. The invariant: each sum so far, continued with the weights that are left, is the whole sum.
+-- `scaling::add_up` meets its contract. The invariant: each sum so far, continued with the weights that are left, is the sum of all.
 use mathlib.Core.Path.{_≡_, sym, ap, _∙_}
 use mathlib.Core.List.{List, [], map}
 use Prim.Native.Nat.{ℕ, _+_, _-_, _≤_, min}
@@ -9,20 +9,19 @@ use lib.ListN.{length, take, drop}
 use Rattle.floats.specs.Values.{magnitude}
 use Rattle.quantising.specs.Scale.{_⊕_, sumFrom, total, absTotal}
 use Rattle.quantising.proofs.Constants.{zero-is}
-use Rattle.quantising.proofs.Adding.{sum-turn, abs-turn, at-end, take-least}
+use Rattle.quantising.proofs.Turns.{sum-turn, abs-turn, at-end, take-least}
 use Rattle.quantising.proofs.scaling.add_up.Statement.{statement}
 use Rattle.quantising.proofs.scaling.add_up.Tie as tie
 
 abbrev Inv-loop : tie.InvT-loop
-Inv-loop order weights weight₀ abs-weight₀ end i₀ weight abs-weight i =
+Inv-loop weights weight₀ abs-weight₀ end i₀ weight abs-weight i =
     (i ≤ end)
-    × (end ≡ min order 32)
     × (length weights ≡ 32)
     × (sumFrom weight (drop i (take end weights)) ≡ total (take end weights))
     × (sumFrom abs-weight (map magnitude (drop i (take end weights))) ≡ absTotal (take end weights))
 
 abbrev μ-loop : tie.MeasureT-loop
-μ-loop order weights weight₀ abs-weight₀ end i₀ weight abs-weight i = end - i
+μ-loop weights weight₀ abs-weight₀ end i₀ weight abs-weight i = end - i
 
 least-requires : tie.Need-least-requires Inv-loop μ-loop
 least-requires c κs = search needs
@@ -31,7 +30,6 @@ loop-holds : tie.Need-loop-holds Inv-loop μ-loop
 unfolding total absTotal
 loop-holds c = (
   omega arith,
-  c .least .ensures,
   c .before .good .0 .1 .0 .1,
   ap (λ (t : Float). sumFrom t (take (c .least .result) (c .before .args .t1))) zero-is,
   ap (λ (t : Float). sumFrom t (map magnitude (take (c .least .result) (c .before .args .t1)))) zero-is,
@@ -61,11 +59,10 @@ loop-again c =
     let more = c .before .loop-test .taken in (
       omega arith,
       l .inv .1,
-      l .inv .2,
-      sym (sum-turn ws k (l .i) room more (l .weight)) ∙ l .inv .3,
+      sym (sum-turn ws k (l .i) room more (l .weight)) ∙ l .inv .2,
       ap (λ (w : Float). sumFrom (l .abs-weight ⊕ w) (map magnitude (drop (l .i + 1) (take k ws)))) (c .abs .ensures)
           ∙ sym (abs-turn ws k (l .i) room more (l .abs-weight))
-          ∙ l .inv .4,
+          ∙ l .inv .3,
     )
 
 -- the weights that were gone through
@@ -77,10 +74,10 @@ returns c =
     let l = c .before .loop in
     let k = c .before .before .least .result in
     let a = c .before .before .before .args in
-    let all = taken (a .order) k (a .t1) (l .inv .1) (l .inv .2) in
+    let all = taken (a .order .0) k (a .t1) (c .before .before .least .ensures) (l .inv .1) in
     let done : drop (l .i) (take k (a .t1)) ≡ [] = at-end (a .t1) k (l .i) (omega arith) (omega arith) in (
-      sym (ap (sumFrom (l .weight)) done) ∙ l .inv .3 ∙ ap total all,
-      sym (ap (λ (r : List Float). sumFrom (l .abs-weight) (map magnitude r)) done) ∙ l .inv .4 ∙ ap absTotal all,
+      sym (ap (sumFrom (l .weight)) done) ∙ l .inv .2 ∙ ap total all,
+      sym (ap (λ (r : List Float). sumFrom (l .abs-weight) (map magnitude r)) done) ∙ l .inv .3 ∙ ap absTotal all,
     )
 
 pub add-up-spec : {M : Type 1} → statement M

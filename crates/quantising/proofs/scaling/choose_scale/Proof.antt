@@ -5,6 +5,7 @@ use mathlib.Core.List.{List}
 use Prim.Native.Nat.{ℕ, _-_, _≤_, min}
 use native.Mathlib.Omega.{arith}
 use borrow.Author.Needs.{needs}
+use borrow.Author.Tests.{not-true, not-false}
 use lib.Dec.{T}
 use lib.IntN.{ℤ}
 use lib.ListN.{take}
@@ -12,17 +13,19 @@ use lib.Ieee.{Float, minus}
 use lib.Ieee.Positive.{positive}
 use lib.Ieee.Scale.{finite}
 use Rattle.floats.specs.Values.{magnitude, exponentOf}
-use Rattle.floats.proofs.Compared.{yes, not-was-true, not-was-false}
+use Rattle.floats.proofs.Patterns.{yes}
 use Rattle.kinds.specs.declared.Width.{Width}
 use Rattle.kinds.specs.declared.Width.the-variants.{Eight, Sixteen, ThirtyTwo}
 use Rattle.kinds.specs.Widths.{bitsOf}
+use Rattle.kinds.specs.declared.Shift.{Shift}
+use Rattle.record.specs.Widths.{greatestShift}
 use Rattle.rule.specs.Numbers.{accumulator}
-use Rattle.quantising.specs.Scale.{_⊕_, _⊗_, _⊖_, _⊘_, float, total, absTotal, floatBias, divisor, quotient, greatestShift, scaleAt, scaleOf}
+use Rattle.quantising.specs.Scale.{_⊕_, _⊗_, _⊖_, _⊘_, float, total, absTotal, floatBias, divisor, quotient, leastShift, scaleAt, scaleOf}
 use Rattle.quantising.specs.declared.scaling.Scale.{Scale}
 use Rattle.quantising.specs.declared.scaling.Scale.the-variants.{Nothing, By}
 use Rattle.quantising.proofs.Unsigned.{absTotal-unsigned}
 use Rattle.quantising.proofs.Divisors.{quotient-positive}
-use Rattle.quantising.proofs.Scales.{oneBits, bias-is, divisor-is, no-total, no-absTotal, no-divisor, past-divisor, scale-negative, scale-by}
+use Rattle.quantising.proofs.Choosing.{oneBits, bias-is, divisor-is, no-total, no-absTotal, no-divisor, past-divisor, scale-negative, scale-by}
 use Rattle.quantising.proofs.scaling.choose_scale.Statement.{statement}
 use Rattle.quantising.proofs.scaling.choose_scale.Tie as tie
 
@@ -32,7 +35,7 @@ module _ (c : tie.Start) where
   W = bitsOf (c .args .width)
 
   abbrev ws : List Float
-  ws = take (c .args .order) (c .args .weights)
+  ws = take (c .args .order .0) (c .args .weights)
 
   abbrev goal : Scale
   goal = scaleOf W ws (c .args .centre) (c .args .centred-bias)
@@ -51,10 +54,10 @@ absTotal-test : (c : tie.After-is-finite2) → c .is-finite2 .result ≡ finite 
 absTotal-test c = c .is-finite2 .ensures ∙ ap finite (absTotal-is (c .before .before .before))
 
 total-finite : (c : tie.Else1) → finite (total (ws (c .before .before .before))) ≡ true
-total-finite c = sym (total-test (c .before)) ∙ not-was-false _ (c .if1 .left)
+total-finite c = sym (total-test (c .before)) ∙ not-false _ (c .if1 .left)
 
 absTotal-finite : (c : tie.Else2) → finite (absTotal (ws (c .before .before .before .before .before))) ≡ true
-absTotal-finite c = sym (absTotal-test (c .before)) ∙ not-was-false _ (c .if2 .left)
+absTotal-finite c = sym (absTotal-test (c .before)) ∙ not-false _ (c .if2 .left)
 
 -- ---- step 2, as the code has it at the third test
 module _ (c : tie.After-is-finite3) where
@@ -96,7 +99,7 @@ module _ (c : tie.After-is-finite3) where
 -- ---- step 3
 module _ (c : tie.Else3) where
   divisor-finite : finite (d (c .before)) ≡ true
-  divisor-finite = sym (divisor-test (c .before)) ∙ not-was-false _ (c .if3 .left)
+  divisor-finite = sym (divisor-test (c .before)) ∙ not-false _ (c .if3 .left)
 
   reached : scaleAt (W (start (c .before))) (exponentOf (quotient (W (start (c .before))) (d (c .before)))) (bias (c .before)) ≡ goal (start (c .before))
   reached = past-divisor (W (start (c .before))) (ws (start (c .before))) _ _ (total-finite (first (c .before))) (absTotal-finite (second (c .before))) divisor-finite
@@ -123,7 +126,7 @@ is-finite-requires c κs = search needs
 returns : tie.Need-returns
 returns c =
     let s = c .before .before .before in
-    no-total (W s) (ws s) _ _ (sym (total-test (c .before)) ∙ not-was-true _ (c .if1 .taken))
+    no-total (W s) (ws s) _ _ (sym (total-test (c .before)) ∙ not-true _ (c .if1 .taken))
 
 is-finite-requires-2 : tie.Need-is-finite-requires-2
 is-finite-requires-2 c κs = search needs
@@ -131,7 +134,7 @@ is-finite-requires-2 c κs = search needs
 returns-2 : tie.Need-returns-2
 returns-2 c =
     let s = c .before .before .before .before .before in
-    no-absTotal (W s) (ws s) _ _ (total-finite (c .before .before)) (sym (absTotal-test (c .before)) ∙ not-was-true _ (c .if2 .taken))
+    no-absTotal (W s) (ws s) _ _ (total-finite (c .before .before)) (sym (absTotal-test (c .before)) ∙ not-true _ (c .if2 .taken))
 
 int-to-float-float-bias : tie.Need-int-to-float-float-bias
 int-to-float-float-bias c = search needs
@@ -148,7 +151,7 @@ is-finite-requires-3 c κs = search needs
 returns-3 : tie.Need-returns-3
 returns-3 c =
     let t = c .before in
-    no-divisor (W (start t)) (ws (start t)) _ _ (total-finite (first t)) (absTotal-finite (second t)) (sym (divisor-test t) ∙ not-was-true _ (c .if3 .taken))
+    no-divisor (W (start t)) (ws (start t)) _ _ (total-finite (first t)) (absTotal-finite (second t)) (sym (divisor-test t) ∙ not-true _ (c .if3 .taken))
 
 accumulator-limit-requires : tie.Need-accumulator-limit-requires
 accumulator-limit-requires c κs = search needs
@@ -161,6 +164,9 @@ exponent-requires c κs =
 
 returns-4 : tie.Need-returns-4
 returns-4 c = scale-at (c .before) Nothing (scale-negative _ (c .before .exponent .result) _ (c .if4 .taken))
+
+cast-least : tie.Need-cast-least
+cast-least c = search needs
 
 least-requires : tie.Need-least-requires
 least-requires c κs = search needs
@@ -195,7 +201,7 @@ returns-5 c =
     let t = x .before .before .before in
     let least : c .least2 .result ≡ min (min (x .exponent .result - 1075) greatestShift) (accumulator (W (start t)) - 1) =
     c .least2 .ensures ∙ ap₂ min (l .least .ensures) (ap (λ (A : ℕ). A - 1) (g .accumulator-bits .ensures)) in
-    scale-at x _ (ap₂ By least (bias-at t) ∙ scale-by (W (start t)) (x .exponent .result) (bias t) (l .before .if4 .left))
+    scale-at x _ (ap₂ (λ (n : ℕ). By (record { 0 = n })) least (bias-at t) ∙ scale-by (W (start t)) (x .exponent .result) (bias t) (l .before .if4 .left))
 
 pub choose-scale-spec : {M : Type 1} → statement M
 choose-scale-spec =
@@ -214,6 +220,7 @@ choose-scale-spec =
     accumulator-limit-requires
     exponent-requires
     returns-4
+    cast-least
     least-requires
     accumulator-bits-requires
     sub-accumulated

@@ -1,4 +1,4 @@
--- Steps 1 to 4 as the code goes through them: each refusal, and the shift.
+-- Steps 1 to 4 as the code goes through them: each refusal, and the shift that they choose.
 use mathlib.Core.Path.{_≡_, sym, ap, _∙_, subst}
 use mathlib.Core.Bool.{Bool, true, false, cond, _&&_}
 use mathlib.Core.List.{List}
@@ -13,8 +13,10 @@ use lib.Ieee.{Float, binary64, minus, ofBits}
 use lib.Ieee.Bits.{is-true, is-false}
 use lib.Ieee.Scale.{finite}
 use Rattle.floats.specs.Values.{magnitude, exponentOf}
+use Rattle.kinds.specs.declared.Shift.{Shift}
+use Rattle.record.specs.Widths.{greatestShift}
 use Rattle.rule.specs.Numbers.{greatest, accumulator}
-use Rattle.quantising.specs.Scale.{_⊕_, _⊖_, _⊗_, float, total, absTotal, floatBias, divisor, quotient, greatestShift, scaleAt, given, scaleOf}
+use Rattle.quantising.specs.Scale.{_⊕_, _⊖_, _⊗_, float, total, absTotal, floatBias, divisor, quotient, leastShift, scaleAt, given, scaleOf}
 use Rattle.quantising.specs.declared.scaling.Scale.{Scale}
 use Rattle.quantising.specs.declared.scaling.Scale.the-variants.{Nothing, By}
 use Rattle.quantising.proofs.Constants.{one-is}
@@ -36,27 +38,27 @@ pub record ShiftFits (W q : ℕ) : Type 0 where
   pub recorded : q ≤ greatestShift
   pub accumulated : q ≤ accumulator W - 1
 
-pub same-shift : (q r : ℕ) (a b : Float) → By q a ≡ By r b → q ≡ r
-same-shift q r a b h = cc
+pub by-once : (q r : Shift) (a b : Float) → By q a ≡ By r b → (q ≡ r) × (a ≡ b)
+by-once q r a b h = ((cc), (cc))
 
-pub not-by : (q : ℕ) (b : Float) → By q b ≡ Nothing → ⊥
+pub not-by : (q : Shift) (b : Float) → By q b ≡ Nothing → ⊥
 not-by q b h = let z : _≡_ {A = ℕ} 0 1 = cc in omega arith
 
-scaleAt-fits : (W : ℕ) (e : ℤ) (bias : Float) (q : ℕ) (b : Float) → By q b ≡ scaleAt W e bias → ShiftFits W q
+scaleAt-fits : (W : ℕ) (e : ℤ) (bias : Float) (q : Shift) (b : Float) → By q b ≡ scaleAt W e bias → ShiftFits W (q .0)
 unfolding scaleAt
 scaleAt-fits W (pos (suc less)) bias q b h =
-    let e = same-shift q (min (min less greatestShift) (accumulator W - 1)) b bias h in
+    let e = ap (λ (s : Shift). s .0) (by-once q (leastShift W less) b bias h .0) in
     record { recorded = subst (λ (k : ℕ). k ≤ greatestShift) (sym e) (first less (accumulator W - 1)); accumulated = subst (λ (k : ℕ). k ≤ accumulator W - 1) (sym e) (second less (accumulator W - 1)) }
   where
-    first : (n a : ℕ) → min (min n 31) a ≤ 31
+    first : (n a : ℕ) → min (min n greatestShift) a ≤ greatestShift
     first n a = omega arith
 
-    second : (n a : ℕ) → min (min n 31) a ≤ a
+    second : (n a : ℕ) → min (min n greatestShift) a ≤ a
     second n a = omega arith
 scaleAt-fits W (pos zero) bias q b h = absurd (not-by q b h)
 scaleAt-fits W (negsuc n) bias q b h = absurd (not-by q b h)
 
-under-given : (t : Bool) (s : Scale) (q : ℕ) (b : Float) → By q b ≡ given t s → T t × (By q b ≡ s)
+under-given : (t : Bool) (s : Scale) (q : Shift) (b : Float) → By q b ≡ given t s → T t × (By q b ≡ s)
 under-given true s q b h = (tt, h)
 under-given false s q b h = absurd (not-by q b h)
 
@@ -95,13 +97,13 @@ module _ (W : ℕ) (ws : List Float) (centre : ℕ) (c : Float) where
   past-divisor g h k = sym (ap (λ (b : Bool). given b scale) k) ∙ past-totals g h
 
   -- where there is a shift, every test before it passed
-  pub record Reached (q : ℕ) (b : Float) : Type 0 where
+  pub record Reached (q : Shift) (b : Float) : Type 0 where
     pub total-finite : T (finite (total ws))
     pub absTotal-finite : T (finite (absTotal ws))
     pub divisor-finite : T (finite d)
     pub scale-is : By q b ≡ scale
 
-  pub reached : (q : ℕ) (b : Float) → By q b ≡ scaleOf W ws centre c → Reached q b
+  pub reached : (q : Shift) (b : Float) → By q b ≡ scaleOf W ws centre c → Reached q b
   unfolding scaleOf
   reached q b h =
       let first = under-given (finite (total ws) && finite (absTotal ws)) (given (finite d) scale) q b h in
@@ -109,7 +111,7 @@ module _ (W : ℕ) (ws : List Float) (centre : ℕ) (c : Float) where
       let sums = both (finite (total ws)) (finite (absTotal ws)) (first .0) in
       record { total-finite = sums .0; absTotal-finite = sums .1; divisor-finite = second .0; scale-is = second .1 }
 
-  pub shift-fits : (q : ℕ) (b : Float) → By q b ≡ scaleOf W ws centre c → ShiftFits W q
+  pub shift-fits : (q : Shift) (b : Float) → By q b ≡ scaleOf W ws centre c → ShiftFits W (q .0)
   shift-fits q b h = scaleAt-fits W (exponentOf (quotient W d)) bias q b (reached q b h .scale-is)
 
 -- ---- step 4, with n for e + 1074
@@ -128,7 +130,7 @@ module _ (W n : ℕ) (bias : Float) where
       (λ (l : n < 1074). sym (ap (λ (e : ℤ). scaleAt W e bias) (minus-low n 1074 l)))
       (eq-or-lt-of-le (le-of-suc-le-suc h))
 
-  pub scale-by : 1075 ≤ n → By (min (min (n - 1075) greatestShift) (accumulator W - 1)) bias ≡ scaleAt W (minus n 1074) bias
+  pub scale-by : 1075 ≤ n → By (leastShift W (n - 1075)) bias ≡ scaleAt W (minus n 1074) bias
   unfolding scaleAt
   scale-by h = sym (ap (λ (e : ℤ). scaleAt W e bias) (minus-high n 1074 (weak n h) ∙ ap pos (less n h)))
     where
