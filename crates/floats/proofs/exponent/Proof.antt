@@ -1,6 +1,7 @@
 -- `floats::exponent` meets its contract: the leading digit's place, moved by the shift.
 use Prim.Native.Nat.{_≤_}
 use native.Mathlib.Nat.{lt-of-le-of-lt}
+use native.Mathlib.Omega.{arith}
 use lib.Dec.{lit<}
 use lib.Count.{leadingZeros}
 use lib.Ieee.Positive.{positive-finite}
@@ -21,7 +22,7 @@ cast-result : tie.Need-cast-result
 cast-result c = record { fits = lt-of-le-of-lt (few-zeros c) (lit< tt) }
 
 sub-result : tie.Need-sub-result
-sub-result c = few-zeros c
+sub-result c = omega (arith, few-zeros c)
 
 add-result : tie.Need-add-result
 add-result c = search needs
