@@ -1,7 +1,7 @@
 -- The integer part of q * 2 ^ s / 2 ^ 1074, and the nearest integer, as shifts of q work them out. 2 ^ 1074 is behind the name `one`: written out it is too long for a tactic.
 use mathlib.Core.Path.{_≡_, sym, ap, _∙_, subst}
 use Prim.Native.Nat.{ℕ, _+_, _-_, _*_, _/_, _%_, _^_, _≤_, _<_, min}
-use native.Mathlib.Nat.{le-trans, le-of-eq, lt-of-lt-of-le, lt-of-le-of-lt, mul-pos, mul-assoc, mul-comm, mul-left-comm, mul-le-mul, mul-le-mul-right, add-mul, div-eq-of-lt, le-div-iff-mul-le, mod-eq-of-lt, one-mul}
+use native.Mathlib.Nat.{le-trans, le-of-eq, lt-of-lt-of-le, lt-of-le-of-lt, mul-pos, mul-assoc, mul-comm, mul-left-comm, mul-le-mul, mul-le-mul-right, add-mul, div-eq-of-lt, le-div-iff-mul-le}
 use native.Mathlib.Omega.{arith}
 use lib.Arith.{digits-div}
 use lib.Dec.{lit≤, lit<}
@@ -9,6 +9,7 @@ use lib.Pow.{pow-pos, pow-lt, pow-add, pow-mono, shl-lt, shl-exact, shl-shr, shr
 use lib.Ieee.Nearest.{div-same}
 use Rattle.floats.specs.Values.{Digits}
 use Rattle.floats.specs.Integers.{halfUp}
+use Rattle.floats.proofs.Shifts.{one-shifted}
 
 -- ---- the cap
 at-cap : (v c : ℕ) → c ≤ v → c ≡ min v c
@@ -134,7 +135,10 @@ module _ (q s : ℕ) (d : Digits q s) where
 
     -- the shift of 1 by k - 1 in 64 bits
     half-is : 1 * 2 ^ (k - 1) % 2 ^ 64 ≡ 2 ^ (k - 1)
-    half-is = ap (λ (z : ℕ). z % 2 ^ 64) (one-mul _) ∙ mod-eq-of-lt (lt-of-lt-of-le half-lt (lit≤ tt))
+    half-is = one-shifted (k - 1) (few s l)
+      where
+        few : (s : ℕ) → 1010 < s → 1074 - s - 1 < 64
+        few s l = omega arith
 
     sum-lt : q + 2 ^ (k - 1) < 2 ^ 64
     sum-lt = go (2 ^ (k - 1)) half-lt (d .few)

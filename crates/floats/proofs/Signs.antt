@@ -2,7 +2,7 @@
 use mathlib.Core.Path.{_≡_, refl, sym, ap, _∙_, subst}
 use mathlib.Core.Bool.{Bool, true, false, not, cond, _&&_}
 use Prim.Native.Nat.{ℕ, zero, suc, _-_, _*_, _/_, _%_, _^_, _≤_, _<_, min}
-use native.Mathlib.Nat.{one-mul, mod-eq-of-lt, le-trans, le-of-eq, le-of-lt, lt-of-lt-of-le, lt-of-le-of-lt}
+use native.Mathlib.Nat.{le-trans, le-of-eq, le-of-lt, lt-of-lt-of-le, lt-of-le-of-lt}
 use native.Mathlib.Omega.{arith}
 use lib.IntN.{ℤ, pos, negsuc}
 use lib.Dec.{T, ltb, lt→ltb, ltb→lt, nltb→le}
@@ -20,6 +20,7 @@ use Rattle.floats.specs.Values.{Unpacked, isNegative}
 use Rattle.floats.specs.Integers.{halfUp, signed, inBits, roundedOf, cutOf, held}
 use Rattle.floats.specs.declared.rounding.Integer.{Integer}
 use Rattle.floats.specs.declared.rounding.Integer.the-variants.{At, Outside}
+use Rattle.floats.proofs.Shifts.{one-shifted}
 use Rattle.floats.proofs.Unpacking.{value-finite, value-sign, value-size}
 use Rattle.floats.proofs.IntegerParts.{halfUp-same}
 
@@ -38,11 +39,11 @@ module _ (bits : ℕ) (l : 1 ≤ bits) (h : bits ≤ 64) where
       few : (bits : ℕ) → bits ≤ 64 → bits - 1 ≤ 63
       few bits h = omega arith
 
-  pub half-is : half ≡ 2 ^ (bits - 1)
-  half-is = ap (λ (z : ℕ). z % 2 ^ 64) (one-mul _) ∙ mod-eq-of-lt (under (2 ^ (bits - 1)) half-le)
+  half-is : half ≡ 2 ^ (bits - 1)
+  half-is = one-shifted (bits - 1) (few bits l h)
     where
-      under : (p : ℕ) → p ≤ 2 ^ 63 → p < 2 ^ 64
-      under p h = omega arith
+      few : (bits : ℕ) → 1 ≤ bits → bits ≤ 64 → bits - 1 < 64
+      few bits l h = omega arith
 
   at-yes : (s : Bool) (n : ℕ) → T (inBits bits (signed s n)) → At (signed s n) ≡ fitted bits s n
   at-yes s n t = sym (ap (λ (b : Bool). cond b (At (signed s n)) Outside) (is-true (inBits bits (signed s n)) t))

@@ -13,7 +13,7 @@ pub struct Parts {
     pub shift: u64,
 }
 
-// The fields of a bit pattern are one sign bit, eleven for the exponent, and these digits.
+// A pattern is its sign bit, eleven bits for the exponent, and the digits below the leading one, which is left out.
 const SIGN: u64 = 0x8000_0000_0000_0000;
 
 const HIDDEN_DIGIT: u64 = 0x10_0000_0000_0000;
@@ -21,7 +21,7 @@ const HIDDEN_DIGIT: u64 = 0x10_0000_0000_0000;
 // All ones: the exponent field of an infinity, and of a NaN.
 const LAST_FIELD: u64 = 2047;
 
-// Only a NaN differs from itself, and it has no bits to be read.
+// Only a NaN differs from itself, and its bits cannot be read.
 pub fn is_finite(x: f64) -> bool
     ensures { λ r. ⌜ r ≡ finite x ⌝ }
 {
@@ -31,6 +31,7 @@ pub fn is_finite(x: f64) -> bool
     false
 }
 
+// The pattern without its sign bit; a NaN stays as it is.
 pub fn abs(x: f64) -> f64
     ensures { λ r. ⌜ r ≡ magnitude x ⌝ }
 {

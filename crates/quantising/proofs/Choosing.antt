@@ -11,6 +11,7 @@ use lib.Arith.{lt→nleb}
 use lib.IntN.{ℤ, pos, negsuc}
 use lib.Ieee.{Float, binary64, minus, ofBits}
 use lib.Ieee.Bits.{is-true, is-false}
+use lib.Ieee.Fits.{and-l, and-r}
 use lib.Ieee.Scale.{finite}
 use Rattle.floats.specs.Values.{magnitude, exponentOf}
 use Rattle.kinds.specs.declared.Shift.{Shift}
@@ -62,10 +63,6 @@ under-given : (t : Bool) (s : Scale) (q : Shift) (b : Float) → By q b ≡ give
 under-given true s q b h = (tt, h)
 under-given false s q b h = absurd (not-by q b h)
 
-both : (a b : Bool) → T (a && b) → T a × T b
-both true b t = (tt, t)
-both false b t = absurd t
-
 -- ---- steps 1 and 2
 module _ (W : ℕ) (ws : List Float) (centre : ℕ) (c : Float) where
   abbrev bias : Float
@@ -108,8 +105,7 @@ module _ (W : ℕ) (ws : List Float) (centre : ℕ) (c : Float) where
   reached q b h =
       let first = under-given (finite (total ws) && finite (absTotal ws)) (given (finite d) scale) q b h in
       let second = under-given (finite d) scale q b (first .1) in
-      let sums = both (finite (total ws)) (finite (absTotal ws)) (first .0) in
-      record { total-finite = sums .0; absTotal-finite = sums .1; divisor-finite = second .0; scale-is = second .1 }
+      record { total-finite = and-l (finite (total ws)) (finite (absTotal ws)) (first .0); absTotal-finite = and-r (finite (total ws)) (finite (absTotal ws)) (first .0); divisor-finite = second .0; scale-is = second .1 }
 
   pub shift-fits : (q : Shift) (b : Float) → By q b ≡ scaleOf W ws centre c → ShiftFits W (q .0)
   shift-fits q b h = scaleAt-fits W (exponentOf (quotient W d)) bias q b (reached q b h .scale-is)

@@ -3,12 +3,13 @@ use mathlib.Core.Path.{_≡_, refl, sym, ap, _∙_}
 use mathlib.Core.Bool.{Bool, true, false}
 use mathlib.Core.List.{List, map}
 use Prim.Native.Nat.{ℕ, _*_, _%_, _^_, _≤_}
-use native.Mathlib.Nat.{le-trans, le-of-eq, lt-of-le-of-lt, one-mul, mod-eq-of-lt}
+use native.Mathlib.Nat.{le-trans, le-of-eq, lt-of-le-of-lt}
 use lib.Dec.{T, le→leb, lit<, lit≤}
 use lib.IntN.{pos}
 use lib.ListN.{take}
-use lib.Pow.{pow-lt, pow-mono}
+use lib.Pow.{pow-mono}
 use lib.Ieee.{Float, binary64, inFloat, ofInt}
+use Rattle.floats.proofs.Shifts.{one-shifted}
 use Rattle.kinds.specs.declared.Shift.{Shift}
 use Rattle.record.specs.Widths.{greatestShift}
 use Rattle.rule.specs.Prediction.{admitted}
@@ -21,7 +22,7 @@ use Rattle.quantising.specs.declared.scaling.Scale.the-variants.{Nothing
 -- ---- 2^q, as (1 << q) as f64 has it
 module _ (q : ℕ) (h : q ≤ greatestShift) where
   shifted : 1 * 2 ^ q % 2 ^ 64 ≡ 2 ^ q
-  shifted = ap (λ (z : ℕ). z % 2 ^ 64) (one-mul (2 ^ q)) ∙ mod-eq-of-lt (pow-lt {i = q} {j = 64} (lt-of-le-of-lt h (lit< tt)))
+  shifted = one-shifted q (lt-of-le-of-lt h (lit< tt))
 
   pub power-exact : T (inFloat binary64 (pos (1 * 2 ^ q % 2 ^ 64)))
   unfolding inFloat

@@ -14,9 +14,8 @@ use Rattle.kinds.specs.declared.Answer.the-variants.{Done, BadOrder, BadLength}
 use Rattle.kinds.specs.Answers.{refuse, isDone, whenDone}
 use Rattle.rule.specs.Refusals.{orderFits}
 use Rattle.rule.proofs.Passing.{order-few}
-use Rattle.quantising.specs.declared.Fitted.{Fitted}
 use Rattle.quantising.specs.Steps.{outcome}
-use Rattle.quantising.specs.Calls.{Leaves, left, refusedWith, concluded, quantised, quantisedFitted}
+use Rattle.quantising.specs.Calls.{left, refusedWith, concluded, quantised, quantisedFitted}
 
 -- tests 1 and 4 of the fitted weights alone
 abbrev pub early : Bool → Bool → Answer

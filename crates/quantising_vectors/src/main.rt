@@ -1,4 +1,4 @@
-// Document 01's worked examples of quantising, and the edges of its steps. A line is: the answer's number, the shift, the bias, and the
+// The worked examples of quantising, and the edges of its steps. A line is: the answer's number, the shift, the bias, and the
 // lent slice after the call, which held 77 at each place before it.
 use floats::rounding::Integer;
 use kinds::Order;

@@ -17,10 +17,9 @@ use Rattle.floats.proofs.Patterns.{yes}
 use Rattle.kinds.specs.declared.Width.{Width}
 use Rattle.kinds.specs.declared.Width.the-variants.{Eight, Sixteen, ThirtyTwo}
 use Rattle.kinds.specs.Widths.{bitsOf}
-use Rattle.kinds.specs.declared.Shift.{Shift}
 use Rattle.record.specs.Widths.{greatestShift}
 use Rattle.rule.specs.Numbers.{accumulator}
-use Rattle.quantising.specs.Scale.{_⊕_, _⊗_, _⊖_, _⊘_, float, total, absTotal, floatBias, divisor, quotient, leastShift, scaleAt, scaleOf}
+use Rattle.quantising.specs.Scale.{_⊕_, _⊗_, _⊖_, _⊘_, float, total, absTotal, floatBias, divisor, quotient, scaleAt, scaleOf}
 use Rattle.quantising.specs.declared.scaling.Scale.{Scale}
 use Rattle.quantising.specs.declared.scaling.Scale.the-variants.{Nothing, By}
 use Rattle.quantising.proofs.Unsigned.{absTotal-unsigned}
