@@ -33,7 +33,7 @@ use Rattle.quantising.specs.Calls.{Leaves, left, refusedWith, concluded,
 use Rattle.quantising.proofs.Choosing.{ShiftFits, shift-fits}
 use Rattle.quantising.proofs.Completing.{nothing-completed}
 
--- a configuration that the coders take
+-- a configuration that the coders take, with a shift that the record's field holds
 pub record Usable (W : ℕ) (q : Shift) (bias : ℤ) (weights : List ℤ) : Type 0 where
   pub rule : admitted W bias weights ≡ true
   pub below : q .0 < accumulator W

@@ -51,19 +51,19 @@ fn print_or_outside(integer: Integer) {
 }
 
 // The places past the order hold a NaN, which would be refused if it were read.
-fn fitted(first: f64, second: f64, bias: f64, order: usize) -> Fitted {
+fn fitted(first: f64, second: f64, bias: f64, order: Order) -> Fitted {
     let mut weights = [0.0f64 / 0.0; 32];
     weights[0] = first;
     weights[1] = second;
     Fitted {
         weights,
         bias,
-        order: Order(order),
+        order,
     }
 }
 
 fn one(weight: f64, bias: f64) -> Fitted {
-    fitted(weight, 0.0 / 0.0, bias, 1)
+    fitted(weight, 0.0 / 0.0, bias, Order(1))
 }
 
 fn at_8(fit: Fitted, centre: u8) {
@@ -93,7 +93,7 @@ fn at_each(weight: f64, bias: f64) {
 
 // Two weights, at each width, with the centre 1.
 fn two_at_each(first: f64, second: f64, bias: f64) {
-    let fit = fitted(first, second, bias, 2);
+    let fit = fitted(first, second, bias, Order(2));
     let mut slice = [77i32; 2];
     let done = quantising_8::quantise_fitted(fit, 1, &mut slice);
     print_line(b"8: ", done, &slice);
@@ -212,11 +212,11 @@ fn extreme() {
 
 fn refused() {
     print(b"order and length\n");
-    at_8(fitted(1.0, 1.0, 0.0, 0), 0);
-    at_16(fitted(1.0, 1.0, 0.0, 33), 0);
-    at_32(fitted(1.0, 1.0, 0.0, 2), 0);
-    at_32(fitted(0.0 / 0.0, 1.0, 0.0, 0), 0);
-    at_16(fitted(0.0 / 0.0, 1.0, 0.0, 32), 0);
+    at_8(fitted(1.0, 1.0, 0.0, Order(0)), 0);
+    at_16(fitted(1.0, 1.0, 0.0, Order(33)), 0);
+    at_32(fitted(1.0, 1.0, 0.0, Order(2)), 0);
+    at_32(fitted(0.0 / 0.0, 1.0, 0.0, Order(0)), 0);
+    at_16(fitted(0.0 / 0.0, 1.0, 0.0, Order(32)), 0);
 }
 
 fn all_places() {
