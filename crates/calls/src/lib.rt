@@ -1,5 +1,7 @@
 // What a coding call says, and the ways of decoding. specs/ has all that a call leaves, and proofs/ that decoding gives the trace back,
 // whatever the cut.
+#![tactic(auto)]
+
 use kinds::Answer;
 
 #[derive(Drop)]

@@ -3,6 +3,7 @@
 // buffer and of the saved state's array. Where there are residuals there follow the check sums of what decoding in pieces gives and of the
 // last state's array, and whether the outputs, and the last state, are the trace again. The first line of a case is the general way,
 // the second the way that a user calls.
+#![tactic(auto)]
 ghost use Rattle.std.specs.Prelude.{◌≤◌};
 
 use trial::{Case, Way};

@@ -1,1 +1,2 @@
 // Nothing runs here: proofs/ has the laws of encoding, over the width W.
+#![tactic(auto)]

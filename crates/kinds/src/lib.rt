@@ -1,4 +1,6 @@
 // The kinds of number that must never stand for one another, and the answers of every call.
+#![tactic(auto)]
+
 ghost use Rattle.std.specs.Prelude.{◌≡◌};
 ghost use Rattle.kinds.specs.Answers.{number_of, is_done, when_done};
 

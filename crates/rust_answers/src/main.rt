@@ -3,6 +3,7 @@
 // the port, and the sum of the numbers that come back is held against that of the kept ones (sums.rt says why a sum is enough). For each
 // kind of case a line says how many there were and how many differ, and where the first of those stands. A case whose numbers do not
 // fit together differs too. Lists go by value, since the check of a lent one costs several times as much.
+#![tactic(auto)]
 use libc::{STDIN_FILENO, STDOUT_FILENO};
 
 mod casts;

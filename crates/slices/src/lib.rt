@@ -1,4 +1,5 @@
 // What every coder does with slices; proofs/ has the laws of copying.
+#![tactic(auto)]
 
 ghost use Rattle.std.specs.Prelude.{◌≡◌, min};
 

@@ -1,4 +1,5 @@
 // Slices of samples.
+#![tactic(auto)]
 ghost use Rattle.std.specs.Prelude.{◌≡◌, ◌++◌, ◌≤◌, length, drop};
 
 use sample_32::Sample;

@@ -1,4 +1,5 @@
 // Decimal numbers in text: the words between blanks, and the number that a word stands for.
+#![tactic(auto)]
 ghost use Rattle.std.specs.Prelude.{◌≡◌, ◌+◌, ◌≤◌, length, drop};
 ghost use Rattle.text.specs.Words.{is_blank, is_digit, front, is_negative, word_from};
 ghost use Rattle.text.specs.Words.{number as Words·number, meaning as Words·meaning};

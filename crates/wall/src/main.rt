@@ -3,6 +3,7 @@
 // residuals are cut into pieces, the pieces are decoded in order, and what comes of it is printed. Bad input gets one line and nothing else:
 // the refusal's number, or `(text)` where the text is no such input, the place, and what is wrong there. The text is read before anything is
 // coded, so a fault of the text is told before a refusal.
+#![tactic(auto)]
 ghost use Rattle.std.specs.Prelude.{◌≤◌};
 
 use libc::STDIN_FILENO;
