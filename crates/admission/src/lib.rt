@@ -1,5 +1,6 @@
 // The tests of a call in their order, at any width.
 #![tactic(auto)]
+
 ghost use Rattle.std.specs.Prelude.{◌≡◌};
 ghost use Rattle.kinds.specs.Widths.{bits_of};
 ghost use Rattle.rule.specs.Configuration.{config};

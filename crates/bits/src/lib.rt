@@ -3,7 +3,7 @@
 #![tactic(auto)]
 
 // What reading a field gives.
-#[derive(Drop)]
+#[derive(Clone, Copy)]
 pub enum Found {
     Missing,
     Number(u64),

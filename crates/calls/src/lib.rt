@@ -4,18 +4,18 @@
 
 use kinds::Answer;
 
-#[derive(Drop)]
+#[derive(Clone, Copy)]
 pub struct EncodeAnswer {
     pub answer: Answer,
 }
 
-#[derive(Drop)]
+#[derive(Clone, Copy)]
 pub struct DecodeAnswer {
     pub answer: Answer,
 }
 
 // The general way decodes at any order, the way of order 6 at that order alone. Both give the same.
-#[derive(Drop)]
+#[derive(Clone, Copy)]
 pub enum Way {
     General,
     OrderSix,

@@ -4,7 +4,7 @@ ghost use Rattle.std.specs.Prelude.{◌<◌, ◌≤◌, ◌^◌};
 use crate::saying::{say, say_number, say_same, say_sum};
 
 // A configuration, the number of weights that go with it, and the number of samples.
-#[derive(Drop)]
+#[derive(Clone, Copy)]
 pub struct Case {
     pub width: u64,
     pub order: usize,
@@ -14,7 +14,7 @@ pub struct Case {
     pub count: usize,
 }
 
-#[derive(Drop)]
+#[derive(Clone, Copy)]
 pub enum Way {
     Encoding,
     General,
@@ -22,7 +22,7 @@ pub enum Way {
 }
 
 // What a coder works on and leaves: its answer's number, the row of samples or residuals, and the state's array and count.
-#[derive(Drop)]
+#[derive(Clone, Copy)]
 pub struct Tape {
     pub answer: u64,
     pub row: [u64; 2048],

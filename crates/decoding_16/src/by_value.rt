@@ -10,7 +10,7 @@ use kinds::{Order, Shift};
 use sample_16::{Sample, State};
 
 // What a decoding call gives back beside the piece: the state is the one for the piece that follows.
-#[derive(Drop)]
+#[derive(Clone, Copy)]
 pub struct Decoded {
     pub said: DecodeAnswer,
     pub state: State,

@@ -9,7 +9,7 @@ use calls::EncodeAnswer;
 use kinds::{Answer, Order, SampleCount, Shift};
 use sample_8::{Sample, State};
 
-#[derive(Drop)]
+#[derive(Clone, Copy)]
 pub struct Encoded {
     pub said: EncodeAnswer,
     pub state: State,

@@ -7,7 +7,7 @@ ghost use Rattle.std.specs.Float.Ieee.Positive.{positive};
 ghost use Rattle.floats.specs.Values.{magnitude, Unpacked, exponent_of};
 
 // A finite float: its size is digits * 2^shift units of 2^-1074, the least float above zero.
-#[derive(Drop)]
+#[derive(Clone, Copy)]
 pub struct Parts {
     pub negative: bool,
     pub digits: u64,

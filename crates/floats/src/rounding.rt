@@ -6,7 +6,7 @@ ghost use Rattle.floats.specs.Integers.{half_up, signed, in_bits, rounded_of, cu
 use crate::{is_finite, unpack};
 
 // The integer that a float was taken to, where there is one and it fits the bits that were asked for.
-#[derive(Drop)]
+#[derive(Clone, Copy)]
 pub enum Integer {
     At(i64),
     Outside,

@@ -5,7 +5,7 @@ ghost use Rattle.std.specs.Prelude.{◌≡◌};
 ghost use Rattle.kinds.specs.Answers.{number_of, is_done, when_done};
 
 // The width of a sample, in bits.
-#[derive(Drop)]
+#[derive(Clone, Copy)]
 pub enum Width {
     Eight,
     Sixteen,
@@ -13,23 +13,23 @@ pub enum Width {
 }
 
 // How many samples a prediction looks back at, and so the number of weights: 1 to 32.
-#[derive(Drop)]
+#[derive(Clone, Copy)]
 pub struct Order(pub usize);
 
 // By how many bits a sum is shifted down: 0 to A-1.
-#[derive(Drop)]
+#[derive(Clone, Copy)]
 pub struct Shift(pub u32);
 
 // How many samples a list of them holds.
-#[derive(Drop)]
+#[derive(Clone, Copy)]
 pub struct SampleCount(pub usize);
 
 // How many weights a list of them holds.
-#[derive(Drop)]
+#[derive(Clone, Copy)]
 pub struct WeightCount(pub usize);
 
 // What a call answers: done, or why it refused and left everything as it was.
-#[derive(Drop)]
+#[derive(Clone, Copy)]
 pub enum Answer {
     Done,
     BadOrder,

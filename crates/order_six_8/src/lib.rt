@@ -15,7 +15,7 @@ use predict_8::settling::widened;
 use sample_8::{Conv, Sample, Wide};
 
 // The last six samples, the oldest first, and the sums of the next six predictions as far as these samples go.
-#[derive(Drop)]
+#[derive(Clone, Copy)]
 struct Running {
     samples: [Sample; 6],
     sums: [Wide; 6],

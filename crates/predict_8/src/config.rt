@@ -10,7 +10,7 @@ use kinds::{Order, Shift};
 use sample_8::Conv;
 
 // Its numbers as the accumulator holds them. Places past the order are 0.
-#[derive(Drop)]
+#[derive(Clone, Copy)]
 pub struct Config {
     pub order: Order,
     pub shift: Shift,

@@ -16,7 +16,7 @@ pub fn widened(z: Conv) -> Wide
     z as Wide
 }
 
-#[derive(Drop)]
+#[derive(Clone, Copy)]
 pub struct Prediction {
     pub value: Sample,
 }

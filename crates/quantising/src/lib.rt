@@ -13,7 +13,7 @@ use kinds::{Answer, Order, Shift, Width};
 
 // What fitting gives: a weight for each of the `order` samples looked back at, and the bias of the samples less their centre. The
 // places past the order are never read.
-#[derive(Drop)]
+#[derive(Clone, Copy)]
 pub struct Fitted {
     pub weights: [f64; 32],
     pub bias: f64,
@@ -21,7 +21,7 @@ pub struct Fitted {
 }
 
 // The configuration's shift and bias; its weights fill the lent slice. Beside a refusal both are 0.
-#[derive(Drop)]
+#[derive(Clone, Copy)]
 pub struct Quantised {
     pub answer: Answer,
     pub shift: Shift,
@@ -29,14 +29,14 @@ pub struct Quantised {
 }
 
 // The weights as integers, in the first places; the rest is 0. They count only where all of them fit 32 bits.
-#[derive(Drop)]
+#[derive(Clone, Copy)]
 struct RoundedWeights {
     fit: bool,
     weights: [i32; 32],
 }
 
 // What the six steps come to, the weights as above.
-#[derive(Drop)]
+#[derive(Clone, Copy)]
 struct Configuration {
     found: bool,
     shift: Shift,

@@ -11,14 +11,14 @@ use kinds::{Order, Shift, Width};
 use record::MAX_CONV1_DELTA_QUANTIZATION;
 
 // The shift and the float bias, before anything is rounded or cut.
-#[derive(Drop)]
+#[derive(Clone, Copy)]
 pub enum Scale {
     Nothing,
     By(Shift, f64),
 }
 
 // T and S of step 1.
-#[derive(Drop)]
+#[derive(Clone, Copy)]
 struct Totals {
     weight: f64,
     abs_weight: f64,

@@ -54,7 +54,7 @@ pub const MAX_CONV1_DELTA_QUANTIZATION: u32 = 31;
 // A window's log is stored less 1.
 pub const MAX_WINDOW_N_LOG_FIELD: u32 = 32;
 
-#[derive(Drop)]
+#[derive(Clone, Copy)]
 pub enum DeltaEncoding {
     NoOp,
     Consecutive {
@@ -74,14 +74,14 @@ pub enum DeltaEncoding {
 }
 
 // Conv1's weights stand beside the encoding, in the first `order` places; for every other encoding none is used.
-#[derive(Drop)]
+#[derive(Clone, Copy)]
 pub struct DeltaRecord {
     pub encoding: DeltaEncoding,
     pub weights: [i32; 32],
 }
 
 // What reading answers: beside a refusal the empty record and 0 bits.
-#[derive(Drop)]
+#[derive(Clone, Copy)]
 pub struct Reading {
     pub answer: Answer,
     pub delta: DeltaRecord,
@@ -114,7 +114,7 @@ pub fn give(encoding: DeltaEncoding, weights: [i32; 32], bits: usize) -> Reading
 }
 
 // What writing answers: beside a refusal 0 bits.
-#[derive(Drop)]
+#[derive(Clone, Copy)]
 pub struct Writing {
     pub answer: Answer,
     pub bits: usize,

@@ -10,7 +10,7 @@ use kinds::{Answer, WeightCount};
 use record::{DeltaEncoding, DeltaRecord, MAX_CONV1_DELTA_ORDER, Reading, Writing};
 
 // What reading answers: beside a refusal every number is 0.
-#[derive(Drop)]
+#[derive(Clone, Copy)]
 pub struct Readout {
     pub answer: Answer,
     pub numbers: Numbers,

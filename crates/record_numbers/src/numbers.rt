@@ -11,7 +11,7 @@ use record::DeltaEncoding;
 pub const CONV1: u32 = 3;
 
 // A record but for its weights.
-#[derive(Drop)]
+#[derive(Clone, Copy)]
 pub struct Numbers {
     pub variant: u32,
     pub order: Order,

@@ -6,7 +6,7 @@ use crate::lines::Line;
 use crate::sums::NO_SUM;
 
 // What a case begins with, but for its width and its weights. `count` is the number of samples.
-#[derive(Drop)]
+#[derive(Clone, Copy)]
 pub struct Config {
     pub order: usize,
     pub shift: u32,

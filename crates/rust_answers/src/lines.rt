@@ -2,7 +2,7 @@
 use text::{Found, Word};
 
 // The numbers of a line, by their 64 bits, in the first `count` places; the others are 0.
-#[derive(Drop)]
+#[derive(Clone, Copy)]
 pub struct Line {
     pub count: usize,
     pub numbers: [u64; 256],

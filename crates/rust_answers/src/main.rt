@@ -17,14 +17,14 @@ mod records;
 mod sums;
 
 // A line of the text: where it begins, and its number.
-#[derive(Drop)]
+#[derive(Clone, Copy)]
 struct Cursor {
     at: usize,
     line: u64,
 }
 
 // The cases of a kind so far. `first` is the line of the first that differs.
-#[derive(Drop)]
+#[derive(Clone, Copy)]
 struct Tally {
     cases: u64,
     differ: u64,
@@ -32,7 +32,7 @@ struct Tally {
 }
 
 // What a line is: a case of the kind that was asked for, and whether it is the same; or something else.
-#[derive(Drop)]
+#[derive(Clone, Copy)]
 enum Step {
     Case(bool),
     Other,

@@ -6,7 +6,7 @@ use kinds::{Order, Shift};
 use record::{DeltaEncoding, DeltaRecord, Reading};
 
 // A record's fields in the order of a line. What a variant does not have is 0.
-#[derive(Drop)]
+#[derive(Clone, Copy)]
 struct Fields {
     variant: u64,
     order: u64,

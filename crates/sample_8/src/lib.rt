@@ -27,7 +27,7 @@ pub const MODULUS: Bits = 256;
 pub const BYTES: usize = 1;
 
 // The samples that start the decoding of a piece, in the first `count` places of a fixed array; the places past them are never read.
-#[derive(Drop)]
+#[derive(Clone, Copy)]
 pub struct State {
     pub samples: [Sample; 32],
     pub count: SampleCount,

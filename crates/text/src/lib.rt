@@ -15,7 +15,7 @@ const SPACE: u8 = 32;
 const MINUS: u8 = 45;
 
 // What a word holds, but for its sign: a number below 2^64, or nothing that is one.
-#[derive(Drop)]
+#[derive(Clone, Copy)]
 pub enum Found {
     Nothing,
     Number(u64),
@@ -23,7 +23,7 @@ pub enum Found {
 
 // A word of a text: it stands from `start` up to `end`, and is negative where it begins with a minus. Where the text has no more words,
 // it is empty and stands where the text ends.
-#[derive(Drop)]
+#[derive(Clone, Copy)]
 pub struct Word {
     pub start: usize,
     pub end: usize,

@@ -5,7 +5,7 @@ ghost use Rattle.text.specs.Places.{line_length, stepped, place_after};
 const LINE_END: u8 = 10;
 
 // A place of a text, as people count it: both from 1, a column to a byte.
-#[derive(Drop)]
+#[derive(Clone, Copy)]
 pub struct Place {
     pub line: usize,
     pub column: usize,

@@ -6,7 +6,7 @@ ghost use Rattle.text.specs.Signed.{signed64};
 use crate::{Found, Word};
 
 // A word as a signed number of 64 bits.
-#[derive(Drop)]
+#[derive(Clone, Copy)]
 pub enum Signed64 {
     Number(i64),
     Unfit,

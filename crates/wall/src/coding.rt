@@ -6,7 +6,7 @@ use crate::reading::{Configuration, Numbers};
 use kinds::{Answer, Width};
 
 // What a call answers, and leaves: samples or residuals, and the state, each in the first places.
-#[derive(Drop)]
+#[derive(Clone, Copy)]
 pub struct Coded {
     pub answer: Answer,
     pub row: [u8; 16384],

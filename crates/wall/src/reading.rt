@@ -6,7 +6,7 @@ use text::signed::Signed64;
 use text::{Found, Word};
 
 // What the text had to hold at a place where it holds something else.
-#[derive(Drop)]
+#[derive(Clone, Copy)]
 pub enum Wanted {
     Width,
     Order,
@@ -19,14 +19,14 @@ pub enum Wanted {
     EndOfInput,
 }
 
-#[derive(Drop)]
+#[derive(Clone, Copy)]
 pub struct Fault {
     pub wanted: Wanted,
     pub at: usize,
 }
 
 // The first four numbers of the first line, and where the fourth ends. `bits` is the width as a number.
-#[derive(Drop)]
+#[derive(Clone, Copy)]
 pub struct Configuration {
     pub bits: u64,
     pub width: Width,
@@ -36,7 +36,7 @@ pub struct Configuration {
     pub end: usize,
 }
 
-#[derive(Drop)]
+#[derive(Clone, Copy)]
 pub enum Head {
     Unread(Fault),
     Read(Configuration),
@@ -44,7 +44,7 @@ pub enum Head {
 
 // Numbers in the first `count` places; a weight stands as its 32 bits. There is no heap, so there is room for the longest trace. Reading
 // stopped before the word at `next`, or at the end of the text.
-#[derive(Drop)]
+#[derive(Clone, Copy)]
 pub struct Numbers {
     pub values: [u64; 4096],
     pub count: usize,
