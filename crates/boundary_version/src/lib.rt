@@ -1,5 +1,6 @@
 // The library's own version, so that a caller can hold it against that of the header that it was compiled with.
 #![tactic(auto)]
+
 ghost use Rattle.std.specs.Prelude.{◌≡◌};
 
 // A million for each major version, a thousand for each minor one: 1.0.0, as include/claspotter.h has it.
