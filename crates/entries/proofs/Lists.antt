@@ -3,14 +3,14 @@
 use mathlib.Core.Path.{◌≡◌, refl, sym, ap, ◌∙◌}
 use mathlib.Core.List.{List, [], ◌∷◌, ◌++◌, map, map-append, append_assoc, append-nil}
 use Prim.Native.Nat.{ℕ, zero, suc, ◌+◌, ◌-◌, ◌*◌, ◌/◌, ◌^◌, ◌≤◌, ◌<◌}
-use native.Mathlib.Nat.{zero-add, add_comm, mul-zero, mul-suc, mul-div_cancel_left, mul-le-mul_left, mul-add, zero-sub, sub-zero, suc-sub-suc, le-div_iff_mul-le, mul_comm}
+use native.Mathlib.Nat.{zero-add, add_comm, mul-zero, mul-suc, mul-div_cancel_left, mul-le-mul_left, mul-add, le-div_iff_mul-le, mul_comm}
 use native.Mathlib.Numerals.{add-one}
 use native.Mathlib.Omega.{arith}
 use lib.IntN.{ℤ}
 use mir.Syntax.{Width}
 use mir.Val.{to_z}
 use lib.ListN.{length, get_or, take, drop, length-append, length-drop}
-use lib.Seq.{take-nil, take_at, drop_at, drop-append-add, length-take-le, take-take, take-suc, drop-drop, take-add, take_all}
+use lib.Seq.{take_at, drop_at, drop-append-add, length-take-le, take-take, take-suc, drop-drop, take-add, take_all}
 use Rattle.rule.specs.Coding.{tabulate}
 use Rattle.rule.proofs.Parts.{drop-take}
 use Rattle.rule.proofs.Filling.{Filled, length-tabulate, get_d_tabulate, tabulate_same, tabulate_part}

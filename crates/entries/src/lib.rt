@@ -1,5 +1,6 @@
 // One little-endian entry of a byte slice, read and written, of any width up to eight bytes.
 #![tactic(auto)]
+
 ghost use Rattle.std.specs.Prelude.{◌≡◌, ◌+◌, ◌%◌, ◌≤◌, ◌<◌, length};
 ghost use Rattle.entries.specs.Entries.{entry_at, with_entry};
 
