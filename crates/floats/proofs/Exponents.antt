@@ -9,7 +9,7 @@ use lib.Dec.{T, leb, lit≤, leb-suc-suc}
 use lib.Pow.{pow_pos, pow-add, pow_mono}
 use lib.Count.{count_leading_zeros, leading_top}
 use lib.Ieee.{Float, nan, inf, fin, binary64, fits, minus, size}
-use lib.Ieee.Digits.{size_lt, size-le}
+use lib.Ieee.Digits.{size-lt, size-le}
 use lib.Ieee.Exact.{HasValue}
 use lib.Ieee.Positive.{num, den, positive, den_pos, value_pos, first_pos, positive-finite}
 use Rattle.floats.specs.Values.{Unpacked, exponent_of, is_negative}
@@ -39,7 +39,7 @@ greatest_exponent x n g =
     ∙ ap (λ (k : ℕ). minus k 1075) (between (size units) (reaches units ((le-div_iff_mul-le (den_pos x)).1 g.not_above)) (size-le units (n + 1) ((div-lt_iff_lt-mul (den_pos x)).1 g.next_above)))
   where
     reaches : (u : ℕ) → 2 ^ n ≤ u → n < size u
-    reaches u h = lt_of_not-le (λ (k : size u ≤ n). not-le_of_lt (lt_of_lt_of_le (size_lt u) (pow_mono k)) h)
+    reaches u h = lt_of_not-le (λ (k : size u ≤ n). not-le_of_lt (lt_of_lt_of_le (size-lt u) (pow_mono k)) h)
 
     between : (z : ℕ) → n < z → z ≤ n + 1 → suc n ≡ z
     between z a b = omega arith

@@ -1,5 +1,6 @@
 // Floats taken apart: every answer is worked out from the bits, so none is an estimate.
 #![tactic(auto)]
+
 ghost use Rattle.std.specs.Prelude.{◌≡◌, T};
 ghost use Rattle.std.specs.Float.Ieee.{minus};
 ghost use Rattle.std.specs.Float.Ieee.Scale.{finite};
