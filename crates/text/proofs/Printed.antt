@@ -1,16 +1,19 @@
--- A number that was printed is read again: `number` of the decimal digits that the kit's `io::decimal` writes is that number.
--- Assumes nothing.
-use mathlib.Core.Bool.{Bool, true, false, cond, ◌&&◌}
-use mathlib.Core.List.{List, [], ◌∷◌, ◌++◌}
-use mathlib.Core.Path.{◌≡◌, refl, ap, ◌∙◌}
-use Prim.Native.Nat.{ℕ, zero, suc, ◌+◌, ◌-◌, ◌/◌, ◌%◌, ◌^◌, ◌<◌}
-use native.Mathlib.Nat.{pow-suc}
-use native.Mathlib.Omega.{arith}
-use borrow.Author.Tests.{lt-ltb, le-leb}
-use lib.Dec.{ltb}
-use Rattle.io.specs.Digits.{hex_digit_ascii, last_digits}
+-- A number that was printed is read again: `number` of its decimal digits is that number, both of those that std's `{}` writes and of
+-- those with zeros before them. Assumes nothing.
+use Rattle.std.proofs.Common.{◌≡◌, refl, ap, ◌∙◌, ℕ, zero, suc, ◌+◌, ◌/◌, ◌%◌, ◌^◌, ◌<◌, ◌≤◌, Bool, true, false, cond, ◌&&◌, List, [], ◌∷◌, ◌++◌, decimal, ltb, pow-suc, arith, lt-ltb, le-leb}
+use Rattle.std.proofs.lemmas.Fmt.{decimal_by_steps, decimal_nonempty}
 use Rattle.text.specs.declared.Found.TheVariants.{Nothing, Number}
 use Rattle.text.specs.Words.{is_digit, grown, number_after, number}
+use Rattle.text.proofs.Scans.{number_some}
+
+-- the ASCII code of a digit below 16: `0` to `9`, then `a` to `f`
+abbrev pub hex_digit_ascii : ℕ → ℕ
+hex_digit_ascii d = cond (ltb d 10) (48 + d) (87 + d)
+
+-- the last k digits of n in base b, the most significant first
+abbrev pub last_digits : ℕ → ℕ → ℕ → List ℕ
+last_digits b zero n = []
+last_digits b (suc k) n = last_digits b k (n / b) ++ (hex_digit_ascii (n % b) ∷ [])
 
 -- one digit more at the end
 longer : (v : ℕ) (xs : List ℕ) (u b : ℕ) → number_after v xs ≡ Number u → is_digit b ≡ true → grown u b < 2 ^ 64 → number_after v (xs ++ (b ∷ [])) ≡ Number (grown u b)
@@ -24,6 +27,13 @@ longer v (x ∷ xs) u b e d f = split (is_digit x && ltb (grown v x) (2 ^ 64)) (
     split true later h = later h
     split false later h = absurd (let z : ◌≡◌ {A = ℕ} 0 1 = cc in omega arith)
 
+-- the last digit after the digits before it
+last : (n : ℕ) (xs : List ℕ) → n < 2 ^ 64 → number_after 0 xs ≡ Number (n / 10) → number_after 0 (xs ++ ((48 + n % 10) ∷ [])) ≡ Number n
+last n xs f e =
+    let d : is_digit (48 + n % 10) ≡ true = rw (le-leb 48 (48 + n % 10) (omega arith)) (le-leb (48 + n % 10) 57 (omega arith)) in
+    let g : grown (n / 10) (48 + n % 10) ≡ n = omega arith in
+    longer 0 xs (n / 10) (48 + n % 10) e d (omega (arith, g)) ∙ ap Number g
+
 -- the glyph of a digit is its digit
 glyph_is : (d : ℕ) → d < 10 → hex_digit_ascii d ≡ 48 + d
 glyph_is d h = rw (lt-ltb d 10 h)
@@ -33,10 +43,8 @@ unfolding number_after
 all_digits zero n h f = ap Number (omega arith)
 all_digits (suc k) n h f =
     let b : hex_digit_ascii (n % 10) ≡ 48 + n % 10 = glyph_is (n % 10) (omega arith) in
-    let d : is_digit (48 + n % 10) ≡ true = rw (le-leb 48 (48 + n % 10) (omega arith)) (le-leb (48 + n % 10) 57 (omega arith)) in
-    let g : grown (n / 10) (48 + n % 10) ≡ n = omega arith in
     let l : n / 10 < 10 ^ k = omega (arith, rw (pow-suc 10 k) at h) in
-    rw b (longer 0 (last_digits 10 k (n / 10)) (n / 10) (48 + n % 10) (all_digits k (n / 10) l (omega arith)) d (omega (arith, g)) ∙ ap Number g)
+    rw b (last n (last_digits 10 k (n / 10)) f (all_digits k (n / 10) l (omega arith)))
 
 pub printed_read : (k n : ℕ) → n < 10 ^ suc k → n < 2 ^ 64 → number (last_digits 10 (suc k) n) ≡ Number n
 unfolding number
@@ -45,3 +53,21 @@ printed_read k n h f = some (last_digits 10 k (n / 10)) (hex_digit_ascii (n % 10
     some : (xs : List ℕ) (b : ℕ) → number (xs ++ (b ∷ [])) ≡ number_after 0 (xs ++ (b ∷ []))
     some [] b = refl
     some (x ∷ xs) b = refl
+
+-- no digits yet
+start : number_after 0 [] ≡ Number 0
+unfolding number_after
+start = refl
+
+-- what `{}` writes
+pub decimal_read : (n : ℕ) → n < 2 ^ 64 → number (decimal n) ≡ Number n
+decimal_read n f = number_some (decimal n) (λ e. let more = decimal_nonempty n f in omega arith) ∙ decimal_by_steps (λ (m : ℕ) (ds : List ℕ). m < 2 ^ 64 → number_after 0 ds ≡ Number m) one more n f f
+  where
+    one : (m : ℕ) → m < 10 → m < 2 ^ 64 → number_after 0 ((48 + m) ∷ []) ≡ Number m
+    one m h g =
+        let d : is_digit (48 + m) ≡ true = rw (le-leb 48 (48 + m) (omega arith)) (le-leb (48 + m) 57 (omega arith)) in
+        let e : grown 0 (48 + m) ≡ m = omega arith in
+        longer 0 [] 0 (48 + m) start d (omega (arith, e)) ∙ ap Number e
+
+    more : (m : ℕ) (ds : List ℕ) → 10 ≤ m → (m / 10 < 2 ^ 64 → number_after 0 ds ≡ Number (m / 10)) → m < 2 ^ 64 → number_after 0 (ds ++ ((48 + m % 10) ∷ [])) ≡ Number m
+    more m ds h before g = last m ds g (before (omega arith))

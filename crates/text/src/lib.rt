@@ -1,8 +1,8 @@
 // Decimal numbers in text: the words between blanks, and the number that a word stands for.
 #![tactic(auto)]
+
 ghost use Rattle.std.specs.Prelude.{◌≡◌, ◌+◌, ◌≤◌, length, drop};
-ghost use Rattle.text.specs.Words.{is_blank, is_digit, front, is_negative, word_from};
-ghost use Rattle.text.specs.Words.{number as Words·number, meaning as Words·meaning};
+ghost use Rattle.text.specs.Words.{front, is_blank, is_digit, is_negative, meaning, number, word_from};
 
 const TAB: u8 = 9;
 
@@ -69,7 +69,7 @@ fn past(text: &[u8], from: usize, blank: bool) -> usize
 
 // The number of a row of digits.
 fn number(digits: &[u8]) -> Found
-    ensures { result ≡ Words·number digits.now }
+    ensures { result ≡ number digits.now }
 {
     if digits.len() == 0 {
         return Found::Nothing;
@@ -101,7 +101,7 @@ fn is_negative(word: &[u8]) -> bool
 }
 
 fn meaning(word: &[u8]) -> Found
-    ensures { result ≡ Words·meaning word.now }
+    ensures { result ≡ meaning word.now }
 {
     if is_negative(word) {
         return number(&word[1..]);
