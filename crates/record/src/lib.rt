@@ -1,5 +1,6 @@
 // The delta record by value, its field widths and limits, and what reading and writing it answer; specs/ says how it lies in bits.
 #![tactic(auto)]
+
 ghost use Rattle.std.specs.Prelude.{◌≡◌};
 ghost use Rattle.record.specs.Reading.{given, refused};
 
