@@ -9,6 +9,7 @@ ghost use Rattle.rule.specs.Refusals.{coding_refusal, order_six_refusal, encodin
 use kinds::{Answer, Order, SampleCount, Shift, Width};
 
 // Tests 1, 2, 4, 3, where a state of `state` samples is given.
+#[tactic(auto, unfolding(rule::specs::Refusals::coding_refusal))]
 pub fn coding_answer(
     width: Width,
     order: Order,
@@ -38,6 +39,7 @@ pub fn coding_answer(
 }
 
 // The tests of the order-6 way: any other order is refused before them.
+#[tactic(auto, unfolding(rule::specs::Refusals::order_six_refusal))]
 pub fn order_six_answer(
     width: Width,
     order: Order,
@@ -55,6 +57,7 @@ pub fn order_six_answer(
 }
 
 // The tests of encoding `count` samples: 1, 2, 4, 3, 5. A call that lends no state gives the order for its length.
+#[tactic(auto, unfolding(rule::specs::Refusals::encoding_refusal))]
 pub fn encoding_answer(
     width: Width,
     order: Order,
