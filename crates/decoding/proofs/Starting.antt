@@ -1,10 +1,8 @@
 -- Between a call's configuration and the numbers that the steps of a way hold. Assumes nothing.
-use mathlib.Core.Path.{◌≡◌, ap, ◌∙◌, subst}
+use mathlib.Core.Path.{◌≡◌, subst}
 use mathlib.Core.List.{List}
 use Prim.Native.Nat.{ℕ}
 use Rattle.rule.specs.Configuration.{Config}
-use Rattle.rule.specs.Prediction.{prediction}
-use Rattle.rule.specs.Coding.{decoded_piece, new_state}
 use Rattle.decoding.specs.Steps.{Startable, Decodes}
 
 module _ {W : ℕ} {held given : Config} (same : held ≡ given) {state : List ℕ} where

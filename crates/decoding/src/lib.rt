@@ -1,5 +1,6 @@
 // What every way of decoding leans on: specs/ and proofs/ have it over the width W, and what runs here has no width.
 #![tactic(auto)]
+
 ghost use Rattle.std.specs.Prelude.{◌≡◌};
 ghost use Rattle.kinds.specs.Widths.{bits_of};
 ghost use Rattle.rule.specs.Configuration.{config};
