@@ -1,6 +1,7 @@
 // What other languages call for samples of this width. Every function answers with a refusal number; a refusal changes no lent slice.
 // include/claspotter.h describes it.
 #![tactic(auto)]
+
 ghost use Rattle.std.specs.Prelude.{◌≡◌, not};
 ghost use Rattle.kinds.specs.declared.Answer.TheVariants.{Done, Overflows};
 ghost use Rattle.kinds.specs.Answers.{number_of, refuse};

@@ -1,6 +1,7 @@
 // What other languages call for the delta record, in plain numbers: variant 0 is nothing, 1 Consecutive, 2 Lookback, 3 Conv1. Every
 // function answers with a refusal number; a refusal changes no lent slice. include/claspotter.h describes it.
 #![tactic(auto)]
+
 ghost use Rattle.std.specs.Prelude.{◌≡◌, length};
 ghost use Rattle.kinds.specs.Answers.{number_of};
 ghost use Rattle.record.specs.Writing.{flag_value};

@@ -1,5 +1,6 @@
 // What has no width in coding over bytes: the tests that need nothing but the lengths of byte slices.
 #![tactic(auto)]
+
 ghost use Rattle.std.specs.Prelude.{◌≡◌, ◌/◌, ◌%◌, ◌<◌, eqb};
 ghost use Rattle.kinds.specs.Widths.{bits_of};
 ghost use Rattle.byte_coding.specs.Lengths.{layout_refusal, layout_by};

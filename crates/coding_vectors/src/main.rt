@@ -4,6 +4,7 @@
 // last state's array, and whether the outputs, and the last state, are the trace again. The first line of a case is the general way,
 // the second the way that a user calls.
 #![tactic(auto)]
+
 ghost use Rattle.std.specs.Prelude.{◌≤◌};
 
 use trial::{Case, Way};

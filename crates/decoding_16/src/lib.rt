@@ -1,5 +1,6 @@
 // What a user calls to decode, by either way or by the quicker one.
 #![tactic(auto)]
+
 ghost use Rattle.std.specs.Prelude.{◌≡◌};
 ghost use Rattle.rule.specs.Configuration.{config};
 ghost use Rattle.calls.specs.Decode.{left, decode_by, decode};

@@ -1,5 +1,6 @@
 // Encoding samples where they lie.
 #![tactic(auto)]
+
 ghost use Rattle.std.specs.Prelude.{◌≡◌, ◌++◌, ℕ, ◌+◌, ◌-◌, ◌≤◌, min, length, get_or, take, drop};
 ghost use Rattle.rule.specs.Configuration.{config, held};
 ghost use Rattle.rule.specs.Prediction.{Ready, prediction};

@@ -1,5 +1,6 @@
 // Samples as little-endian entries.
 #![tactic(auto)]
+
 ghost use Rattle.std.specs.Prelude.{◌≡◌, ◌++◌, ◌+◌, ◌*◌, ◌/◌, ◌≤◌, length, drop};
 ghost use Rattle.entries.specs.Entries.{entry_at, with_entry, entries, bytes_of_all};
 ghost use Rattle.sample_32.specs.Width.{W};

@@ -1,6 +1,7 @@
 // Decodes from states by value whose places past the order hold something, and whose counts are right or forged, with the table's T1 at 16
 // bits. A line has the count, the answer's number, the first four places of the state's array afterwards, its count, and the piece.
 #![tactic(auto)]
+
 use decoding_16::by_value::Decoded;
 use kinds::{Order, SampleCount, Shift};
 use libc::STDOUT_FILENO;

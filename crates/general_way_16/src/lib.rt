@@ -1,5 +1,6 @@
 // Decoding the general way, at any order.
 #![tactic(auto)]
+
 ghost use Rattle.std.specs.Prelude.{map, ◌+◌, ◌≤◌, length, take, drop};
 ghost use Rattle.rule.specs.Configuration.{held};
 ghost use Rattle.rule.specs.Coding.{toggled};

@@ -2,6 +2,7 @@
 // number, the part's length, the caller's samples afterwards and the lent state. The first is the table's T2 at 16 bits, whose first
 // residual is then overwritten with 7; the second has too few samples.
 #![tactic(auto)]
+
 use kinds::{Order, Shift};
 use libc::STDOUT_FILENO;
 

@@ -1,5 +1,6 @@
 // Decoding at order 6, with six running sums.
 #![tactic(auto)]
+
 ghost use Rattle.std.specs.Prelude.{◌≡◌, true, ℕ, ◌-◌, pos, ◌+ℤ◌, ◌*ℤ◌, length, get_or};
 ghost use Rattle.std.proofs.Common.{SFits};
 ghost use Rattle.rule.specs.Configuration.{held};

@@ -1,6 +1,7 @@
 // Quantising float weights: the tail of the Rust's `choose_config`, at any width. `scaling` has its steps 1 to 4; the integers of step 5
 // are worked out from the floats' bits.
 #![tactic(auto)]
+
 ghost use Rattle.std.specs.Prelude.{◌≡◌, false, cond, ◌≤◌, length, take};
 ghost use Rattle.kinds.specs.Widths.{bits_of};
 ghost use Rattle.quantising.specs.Steps.{outcome};

@@ -1,5 +1,6 @@
 // Quantising for samples of this width: the centre is a sample, so every value of it is in range.
 #![tactic(auto)]
+
 ghost use Rattle.std.specs.Prelude.{◌≡◌};
 ghost use Rattle.quantising.specs.Calls.{left, quantised, quantised_fitted};
 ghost use Rattle.sample_16.specs.Width.{W};

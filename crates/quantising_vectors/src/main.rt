@@ -1,6 +1,7 @@
 // The worked examples of quantising, and the edges of its steps. A line is: the answer's number, the shift, the bias, and the
 // lent slice after the call, which held 77 at each place before it.
 #![tactic(auto)]
+
 use floats::rounding::Integer;
 use kinds::Order;
 use libc::STDOUT_FILENO;

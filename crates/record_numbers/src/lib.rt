@@ -1,5 +1,6 @@
 // A delta record read and written in plain numbers, its weights in a lent slice.
 #![tactic(auto)]
+
 ghost use Rattle.std.specs.Prelude.{◌≡◌, ◌++◌, ◌≤◌, length, drop};
 ghost use Rattle.record.specs.Reading.{refused};
 ghost use Rattle.record_numbers.specs.Numbers.{weights_of, record_of};

@@ -1,5 +1,6 @@
 // The delta record's reader. Each field is asked for at its bit place, so the first that is missing decides.
 #![tactic(auto)]
+
 ghost use Rattle.std.specs.Prelude.{◌≡◌};
 ghost use Rattle.record.specs.Reading.{read_consecutive, read_lookback, read_variant, read_order, read_record};
 ghost use Rattle.record.specs.Widths.{variant_bits};

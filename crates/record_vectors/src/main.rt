@@ -3,6 +3,7 @@
 // the buffer after it; behind it what reading the buffer gives. A line that begins with r is a read: answer, bits, the record. A t line has
 // the answers at each number of bytes from 0 on.
 #![tactic(auto)]
+
 ghost use Rattle.std.specs.Prelude.{◌^◌, ◌<◌};
 
 use kinds::{Order, Shift};

@@ -1,5 +1,6 @@
 // The delta record's writer: the tests first, so that a refused call changes nothing, and then the fields in order.
 #![tactic(auto)]
+
 ghost use Rattle.std.specs.Prelude.{false, ◌≡◌, ◌≤◌, ◌<◌, length, []};
 ghost use Rattle.bits.specs.Fields.{with_field};
 ghost use Rattle.record.specs.Format.{weight_fields, bits_of, weights_at};

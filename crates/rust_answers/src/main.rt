@@ -4,6 +4,7 @@
 // kind of case a line says how many there were and how many differ, and where the first of those stands. A case whose numbers do not
 // fit together differs too. Lists go by value, since the check of a lent one costs several times as much.
 #![tactic(auto)]
+
 use libc::{STDIN_FILENO, STDOUT_FILENO};
 
 mod casts;

@@ -1,5 +1,6 @@
 // Written by hand at each width: what the width of a sample decides, here 32 bits. Everything above says `Sample`, `Conv` and W.
 #![tactic(auto)]
+
 ghost use Rattle.std.specs.Prelude.{◌≡◌, ◌+◌, ◌-◌, ◌/◌, ◌%◌, ◌^◌};
 ghost use Rattle.kinds.specs.Widths.{bits_of};
 ghost use Rattle.sample_32.specs.Width.{W};

@@ -1,5 +1,6 @@
 // Slices of samples.
 #![tactic(auto)]
+
 ghost use Rattle.std.specs.Prelude.{◌≡◌, ◌++◌, ◌≤◌, length, drop};
 
 use sample_8::Sample;

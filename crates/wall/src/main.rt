@@ -4,6 +4,7 @@
 // the refusal's number, or `(text)` where the text is no such input, the place, and what is wrong there. The text is read before anything is
 // coded, so a fault of the text is told before a refusal.
 #![tactic(auto)]
+
 ghost use Rattle.std.specs.Prelude.{◌≤◌};
 
 use libc::STDIN_FILENO;
