@@ -7,6 +7,7 @@
 
 ghost use Rattle.std.specs.Prelude.{◌≤◌};
 
+use std::io;
 use trial::{Case, Way};
 
 mod coder_16;
@@ -33,18 +34,19 @@ const WIDE: [i32; 33] = [
 ];
 
 // A line for each way.
-fn run(c: Case, weights: [i32; 33])
+fn run(rt: &impl Print, c: Case, weights: [i32; 33]) -> io::Result<()>
     requires { (c.given ≤ 33) × (c.count ≤ 2048) }
 {
-    trial::run(c, weights, Way::General);
-    trial::run(c, weights, Way::User);
+    trial::run(rt, c, weights, Way::General)?;
+    trial::run(rt, c, weights, Way::User)
 }
 
 // One order and length at the three widths.
-fn at_widths(order: usize, count: usize)
+fn at_widths(rt: &impl Print, order: usize, count: usize) -> io::Result<()>
     requires { (order ≤ 33) × (count ≤ 2048) }
 {
     run(
+        rt,
         Case {
             width: 8,
             order,
@@ -54,8 +56,9 @@ fn at_widths(order: usize, count: usize)
             count,
         },
         NARROW,
-    );
+    )?;
     run(
+        rt,
         Case {
             width: 16,
             order,
@@ -65,8 +68,9 @@ fn at_widths(order: usize, count: usize)
             count,
         },
         MIDDLE,
-    );
+    )?;
     run(
+        rt,
         Case {
             width: 32,
             order,
@@ -76,45 +80,55 @@ fn at_widths(order: usize, count: usize)
             count,
         },
         WIDE,
-    );
+    )
 }
 
-fn every_order() {
+fn every_order(rt: &impl Print) -> io::Result<()> {
     let mut order = 1;
     while order < 33 {
-        at_widths(order, order);
-        at_widths(order, 511 + order);
-        at_widths(order, 1025);
+        at_widths(rt, order, order)?;
+        at_widths(rt, order, 511 + order)?;
+        at_widths(rt, order, 1025)?;
         order += 1;
     }
+    Ok(())
 }
 
-fn every_length(order: usize)
+fn every_length(rt: &impl Print, order: usize) -> io::Result<()>
     requires { order ≤ 32 }
 {
-    at_widths(order, order + 1);
-    at_widths(order, 511);
-    at_widths(order, 512);
-    at_widths(order, 513);
-    at_widths(order, 514);
-    at_widths(order, 543);
-    at_widths(order, 544);
-    at_widths(order, 545);
-    at_widths(order, 1023);
-    at_widths(order, 1024);
-    at_widths(order, 1055);
-    at_widths(order, 1056);
-    at_widths(order, 1537);
-    at_widths(order, 2016);
+    at_widths(rt, order, order + 1)?;
+    at_widths(rt, order, 511)?;
+    at_widths(rt, order, 512)?;
+    at_widths(rt, order, 513)?;
+    at_widths(rt, order, 514)?;
+    at_widths(rt, order, 543)?;
+    at_widths(rt, order, 544)?;
+    at_widths(rt, order, 545)?;
+    at_widths(rt, order, 1023)?;
+    at_widths(rt, order, 1024)?;
+    at_widths(rt, order, 1055)?;
+    at_widths(rt, order, 1056)?;
+    at_widths(rt, order, 1537)?;
+    at_widths(rt, order, 2016)
 }
 
 // The last weight, and one that stands for each before it.
-fn edge(width: u64, order: usize, shift: u32, bias: i64, before: i32, last: i32)
+fn edge(
+    rt: &impl Print,
+    width: u64,
+    order: usize,
+    shift: u32,
+    bias: i64,
+    before: i32,
+    last: i32,
+) -> io::Result<()>
     requires { (1 ≤ order) × (order ≤ 33) }
 {
     let mut weights = [before; 33];
     weights[order - 1] = last;
     run(
+        rt,
         Case {
             width,
             order,
@@ -124,39 +138,40 @@ fn edge(width: u64, order: usize, shift: u32, bias: i64, before: i32, last: i32)
             count: 600,
         },
         weights,
-    );
+    )
 }
 
 // Shifts at both ends, sums at the accumulator's edges, sums below 0 and predictions that wrap.
-fn edges() {
-    edge(8, 1, 0, 127, 0, 128);
-    edge(8, 1, 0, 128, 0, 128);
-    edge(8, 1, 15, -127, 0, -128);
-    edge(8, 1, 0, -128, 0, -128);
-    edge(8, 1, 16, 0, 0, 1);
-    edge(8, 2, 0, 0, 64, 64);
-    edge(8, 2, 6, 0, -64, 128);
-    edge(8, 1, 0, -9223372036854775808, 0, 0);
-    edge(16, 1, 0, 32767, 0, 32768);
-    edge(16, 1, 0, 65535, 0, 32768);
-    edge(16, 1, 0, 0, 0, 32769);
-    edge(16, 1, 31, -65535, 0, -32767);
-    edge(16, 1, 32, 0, 0, 1);
-    edge(32, 1, 0, 0, 0, 2147483647);
-    edge(32, 1, 0, 2147483647, 0, -2147483648);
-    edge(32, 1, 0, 2147483648, 0, -2147483648);
-    edge(32, 1, 63, -9223372036854775807, 0, 0);
-    edge(32, 1, 0, -9223372036854775808, 0, 0);
-    edge(32, 1, 64, 0, 0, 1);
-    edge(32, 3, 0, 0, -2147483648, 2);
-    edge(32, 1, 0, 0, 0, 2);
+fn edges(rt: &impl Print) -> io::Result<()> {
+    edge(rt, 8, 1, 0, 127, 0, 128)?;
+    edge(rt, 8, 1, 0, 128, 0, 128)?;
+    edge(rt, 8, 1, 15, -127, 0, -128)?;
+    edge(rt, 8, 1, 0, -128, 0, -128)?;
+    edge(rt, 8, 1, 16, 0, 0, 1)?;
+    edge(rt, 8, 2, 0, 0, 64, 64)?;
+    edge(rt, 8, 2, 6, 0, -64, 128)?;
+    edge(rt, 8, 1, 0, -9223372036854775808, 0, 0)?;
+    edge(rt, 16, 1, 0, 32767, 0, 32768)?;
+    edge(rt, 16, 1, 0, 65535, 0, 32768)?;
+    edge(rt, 16, 1, 0, 0, 0, 32769)?;
+    edge(rt, 16, 1, 31, -65535, 0, -32767)?;
+    edge(rt, 16, 1, 32, 0, 0, 1)?;
+    edge(rt, 32, 1, 0, 0, 0, 2147483647)?;
+    edge(rt, 32, 1, 0, 2147483647, 0, -2147483648)?;
+    edge(rt, 32, 1, 0, 2147483648, 0, -2147483648)?;
+    edge(rt, 32, 1, 63, -9223372036854775807, 0, 0)?;
+    edge(rt, 32, 1, 0, -9223372036854775808, 0, 0)?;
+    edge(rt, 32, 1, 64, 0, 0, 1)?;
+    edge(rt, 32, 3, 0, 0, -2147483648, 2)?;
+    edge(rt, 32, 1, 0, 0, 0, 2)
 }
 
 // One fault, and faults that meet: the first in the order 1, 2, 4, 3, 5 is told.
-fn refusals() {
+fn refusals(rt: &impl Print) -> io::Result<()> {
     let zeros = [0i32; 33];
     let least = [-2147483648i32; 33];
     run(
+        rt,
         Case {
             width: 16,
             order: 0,
@@ -166,8 +181,9 @@ fn refusals() {
             count: 5,
         },
         zeros,
-    );
+    )?;
     run(
+        rt,
         Case {
             width: 16,
             order: 33,
@@ -177,8 +193,9 @@ fn refusals() {
             count: 50,
         },
         zeros,
-    );
+    )?;
     run(
+        rt,
         Case {
             width: 16,
             order: 33,
@@ -188,8 +205,9 @@ fn refusals() {
             count: 5,
         },
         zeros,
-    );
+    )?;
     run(
+        rt,
         Case {
             width: 16,
             order: 2,
@@ -199,8 +217,9 @@ fn refusals() {
             count: 1,
         },
         zeros,
-    );
+    )?;
     run(
+        rt,
         Case {
             width: 16,
             order: 2,
@@ -210,8 +229,9 @@ fn refusals() {
             count: 1,
         },
         zeros,
-    );
+    )?;
     run(
+        rt,
         Case {
             width: 16,
             order: 2,
@@ -221,8 +241,9 @@ fn refusals() {
             count: 1,
         },
         least,
-    );
+    )?;
     run(
+        rt,
         Case {
             width: 16,
             order: 2,
@@ -232,8 +253,9 @@ fn refusals() {
             count: 1,
         },
         least,
-    );
+    )?;
     run(
+        rt,
         Case {
             width: 16,
             order: 2,
@@ -243,8 +265,9 @@ fn refusals() {
             count: 1,
         },
         zeros,
-    );
+    )?;
     run(
+        rt,
         Case {
             width: 16,
             order: 2,
@@ -254,8 +277,9 @@ fn refusals() {
             count: 0,
         },
         zeros,
-    );
+    )?;
     run(
+        rt,
         Case {
             width: 16,
             order: 2,
@@ -265,8 +289,9 @@ fn refusals() {
             count: 2,
         },
         zeros,
-    );
+    )?;
     run(
+        rt,
         Case {
             width: 32,
             order: 32,
@@ -276,8 +301,9 @@ fn refusals() {
             count: 100,
         },
         least,
-    );
+    )?;
     run(
+        rt,
         Case {
             width: 32,
             order: 32,
@@ -287,8 +313,9 @@ fn refusals() {
             count: 31,
         },
         zeros,
-    );
+    )?;
     run(
+        rt,
         Case {
             width: 8,
             order: 32,
@@ -298,15 +325,15 @@ fn refusals() {
             count: 32,
         },
         zeros,
-    );
+    )
 }
 
-fn main() {
-    every_order();
-    every_length(1);
-    every_length(2);
-    every_length(6);
-    every_length(32);
-    edges();
-    refusals();
+fn main(rt: HostRuntime) -> io::Result<()> {
+    every_order(&rt)?;
+    every_length(&rt, 1)?;
+    every_length(&rt, 2)?;
+    every_length(&rt, 6)?;
+    every_length(&rt, 32)?;
+    edges(&rt)?;
+    refusals(&rt)
 }

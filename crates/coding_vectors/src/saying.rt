@@ -1,24 +1,21 @@
 // Printing, and what a line says of a row.
 ghost use Rattle.std.specs.Prelude.{◌+◌, ◌<◌, ◌≤◌, ◌^◌};
 
-use libc::STDOUT_FILENO;
+use std::io;
 
-pub(crate) fn say(words: &[u8]) {
-    io::write_all(STDOUT_FILENO, words);
+pub(crate) fn say(rt: &impl Print, words: &[u8]) -> io::Result<()> {
+    rt.write_all(words)
 }
 
-pub(crate) fn say_number(n: u64) {
-    say(b" ");
-    io::print_decimal(STDOUT_FILENO, n);
+pub(crate) fn say_number(rt: &impl Print, n: u64) -> io::Result<()> {
+    print!(rt; " {n}")
 }
 
-pub(crate) fn say_signed(z: i64) {
+pub(crate) fn say_signed(rt: &impl Print, z: i64) -> io::Result<()> {
     if z < 0 {
-        say(b" -");
-        io::print_decimal(STDOUT_FILENO, admission::limits::magnitude(z));
-        return;
+        return print!(rt; " -{}", admission::limits::magnitude(z));
     }
-    say_number(admission::limits::magnitude(z));
+    say_number(rt, admission::limits::magnitude(z))
 }
 
 fn mixed(sum: u64, x: u64) -> u64
@@ -28,7 +25,7 @@ fn mixed(sum: u64, x: u64) -> u64
 }
 
 // The check sum of the samples from a place on, up to another.
-pub(crate) fn say_sum(row: [u64; 2048], from: usize, end: usize)
+pub(crate) fn say_sum(rt: &impl Print, row: [u64; 2048], from: usize, end: usize) -> io::Result<()>
     requires { end ≤ 2048 }
 {
     let mut sum: u64 = 7;
@@ -37,20 +34,26 @@ pub(crate) fn say_sum(row: [u64; 2048], from: usize, end: usize)
         sum = mixed(sum, row[i]);
         i += 1;
     }
-    say_number(sum);
+    say_number(rt, sum)
 }
 
 // Whether `count` samples from a place on are those of the trace from another place on.
-pub(crate) fn say_same(row: [u64; 2048], from: usize, trace: [u64; 2048], at: usize, count: usize)
+pub(crate) fn say_same(
+    rt: &impl Print,
+    row: [u64; 2048],
+    from: usize,
+    trace: [u64; 2048],
+    at: usize,
+    count: usize,
+) -> io::Result<()>
     requires { (from + count ≤ 2048) × (at + count ≤ 2048) }
 {
     let mut i = 0;
     while i < count {
         if row[from + i] != trace[at + i] {
-            say(b" BROKEN");
-            return;
+            return say(rt, b" BROKEN");
         }
         i += 1;
     }
-    say(b" whole");
+    say(rt, b" whole")
 }

@@ -2,6 +2,7 @@
 ghost use Rattle.std.specs.Prelude.{◌<◌, ◌≤◌, ◌^◌};
 
 use crate::saying::{say, say_number, say_same, say_sum};
+use std::io;
 
 // A configuration, the number of weights that go with it, and the number of samples.
 #[derive(Clone, Copy)]
@@ -87,7 +88,14 @@ fn decode_pieces(c: Case, weights: [i32; 33], way: Way, coded: Tape) -> Tape
 }
 
 // Decodes in pieces, prints, and compares with the trace.
-fn decode(c: Case, weights: [i32; 33], way: Way, coded: Tape, trace: [u64; 2048])
+fn decode(
+    rt: &impl Print,
+    c: Case,
+    weights: [i32; 33],
+    way: Way,
+    coded: Tape,
+    trace: [u64; 2048],
+) -> io::Result<()>
     requires { (c.given ≤ 33) × (c.order ≤ c.count) × (c.count ≤ 2048) }
 {
     let k = c.order;
@@ -95,23 +103,23 @@ fn decode(c: Case, weights: [i32; 33], way: Way, coded: Tape, trace: [u64; 2048]
     let last = decode_pieces(c, weights, way, coded);
     let row = last.row;
     let held = last.held;
-    say_sum(row, k, n);
-    say_sum(held, 0, 32);
-    say_same(row, k, trace, 0, n - k);
-    say_same(held, 0, trace, n - k, k);
+    say_sum(rt, row, k, n)?;
+    say_sum(rt, held, 0, 32)?;
+    say_same(rt, row, k, trace, 0, n - k)?;
+    say_same(rt, held, 0, trace, n - k, k)
 }
 
-fn say_case(c: Case) {
-    io::print_decimal(libc::STDOUT_FILENO, c.width);
-    say_number(c.order as u64);
-    say_number(c.shift as u64);
-    crate::saying::say_signed(c.bias);
-    say_number(c.count as u64);
-    say(b":");
+fn say_case(rt: &impl Print, c: Case) -> io::Result<()> {
+    print!(rt; "{}", c.width)?;
+    say_number(rt, c.order as u64)?;
+    say_number(rt, c.shift as u64)?;
+    crate::saying::say_signed(rt, c.bias)?;
+    say_number(rt, c.count as u64)?;
+    say(rt, b":")
 }
 
 // Encodes a trace, prints, and goes on where there are residuals.
-fn encode(c: Case, weights: [i32; 33], way: Way)
+fn encode(rt: &impl Print, c: Case, weights: [i32; 33], way: Way) -> io::Result<()>
     requires { (c.given ≤ 33) × (c.count ≤ 2048) }
 {
     let n = c.count;
@@ -125,22 +133,22 @@ fn encode(c: Case, weights: [i32; 33], way: Way)
     let coded = call(c, weights, Way::Encoding, 0, n, fresh);
     let row = coded.row;
     let held = coded.held;
-    say_number(coded.answer);
-    say_sum(row, 0, n);
-    say_sum(held, 0, 32);
+    say_number(rt, coded.answer)?;
+    say_sum(rt, row, 0, n)?;
+    say_sum(rt, held, 0, 32)?;
     if coded.answer != 0 {
-        return;
+        return Ok(());
     }
     if n <= c.order {
-        return;
+        return Ok(());
     }
-    decode(c, weights, way, coded, trace);
+    decode(rt, c, weights, way, coded, trace)
 }
 
-pub(crate) fn run(c: Case, weights: [i32; 33], way: Way)
+pub(crate) fn run(rt: &impl Print, c: Case, weights: [i32; 33], way: Way) -> io::Result<()>
     requires { (c.given ≤ 33) × (c.count ≤ 2048) }
 {
-    say_case(c);
-    encode(c, weights, way);
-    say(b"\n");
+    say_case(rt, c)?;
+    encode(rt, c, weights, way)?;
+    say(rt, b"\n")
 }

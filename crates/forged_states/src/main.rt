@@ -4,39 +4,38 @@
 
 use decoding_16::by_value::Decoded;
 use kinds::{Order, SampleCount, Shift};
-use libc::STDOUT_FILENO;
 use sample_16::State;
+use std::io;
 
-fn say_number(n: u64) {
-    io::write_all(STDOUT_FILENO, b" ");
-    io::print_decimal(STDOUT_FILENO, n);
+fn say_number(rt: &impl Print, n: u64) -> io::Result<()> {
+    print!(rt; " {n}")
 }
 
-fn say_sample(sample: u16) {
-    say_number(sample as u64);
+fn say_sample(rt: &impl Print, sample: u16) -> io::Result<()> {
+    say_number(rt, sample as u64)
 }
 
-fn say_first_four(samples: [u16; 32]) {
-    say_sample(samples[0]);
-    say_sample(samples[1]);
-    say_sample(samples[2]);
-    say_sample(samples[3]);
+fn say_first_four(rt: &impl Print, samples: [u16; 32]) -> io::Result<()> {
+    say_sample(rt, samples[0])?;
+    say_sample(rt, samples[1])?;
+    say_sample(rt, samples[2])?;
+    say_sample(rt, samples[3])
 }
 
-fn say_decoded(decoded: Decoded, output: u16) {
+fn say_decoded(rt: &impl Print, decoded: Decoded, output: u16) -> io::Result<()> {
     let said = decoded.said;
     let answer = said.answer;
     let state = decoded.state;
     let samples = state.samples;
     let count = state.count;
-    say_number(kinds::number(answer) as u64);
-    say_first_four(samples);
-    say_number(count.0 as u64);
-    say_sample(output);
-    io::write_all(STDOUT_FILENO, b"\n");
+    say_number(rt, kinds::number(answer) as u64)?;
+    say_first_four(rt, samples)?;
+    say_number(rt, count.0 as u64)?;
+    say_sample(rt, output)?;
+    println!(rt)
 }
 
-fn decode(count: usize) {
+fn decode(rt: &impl Print, count: usize) -> io::Result<()> {
     let weights: [i32; 1] = [1];
     let mut samples: [u16; 32] = [0; 32];
     samples[0] = 10;
@@ -56,16 +55,16 @@ fn decode(count: usize) {
         state,
         &mut piece,
     );
-    say_number(count as u64);
-    say_decoded(decoded, piece[0]);
+    say_number(rt, count as u64)?;
+    say_decoded(rt, decoded, piece[0])
 }
 
-fn main() {
-    decode(1);
-    decode(0);
-    decode(2);
-    decode(32);
-    decode(33);
-    decode(40);
-    decode(18446744073709551615);
+fn main(rt: HostRuntime) -> io::Result<()> {
+    decode(&rt, 1)?;
+    decode(&rt, 0)?;
+    decode(&rt, 2)?;
+    decode(&rt, 32)?;
+    decode(&rt, 33)?;
+    decode(&rt, 40)?;
+    decode(&rt, 18446744073709551615)
 }

@@ -4,19 +4,19 @@
 #![tactic(auto)]
 
 use kinds::{Order, Shift};
-use libc::STDOUT_FILENO;
+use std::io;
 
-fn say_number(n: u64) {
-    io::write_all(STDOUT_FILENO, b" ");
-    io::print_decimal(STDOUT_FILENO, n);
+fn say_number(rt: &impl Print, n: u64) -> io::Result<()> {
+    print!(rt; " {n}")
 }
 
-fn say_samples(samples: &[u16]) {
+fn say_samples(rt: &impl Print, samples: &[u16]) -> io::Result<()> {
     let mut i = 0;
     while i < samples.len() {
-        say_number(samples[i] as u64);
+        say_number(rt, samples[i] as u64)?;
         i += 1;
     }
+    Ok(())
 }
 
 // How long the part is, whose first place becomes 7.
@@ -27,7 +27,7 @@ fn overwrite(part: &mut [u16]) -> usize {
     part.len()
 }
 
-fn code(samples: &mut [u16]) {
+fn code(rt: &impl Print, samples: &mut [u16]) -> io::Result<()> {
     let weights: [i32; 2] = [-1, 2];
     let mut state: [u16; 2] = [0; 2];
     let mut number: u32 = 0;
@@ -41,16 +41,16 @@ fn code(samples: &mut [u16]) {
         &mut number,
     );
     let length = overwrite(part);
-    say_number(number as u64);
-    say_number(length as u64);
-    say_samples(samples);
-    say_samples(&state);
-    io::write_all(STDOUT_FILENO, b"\n");
+    say_number(rt, number as u64)?;
+    say_number(rt, length as u64)?;
+    say_samples(rt, samples)?;
+    say_samples(rt, &state)?;
+    println!(rt)
 }
 
-fn main() {
+fn main(rt: HostRuntime) -> io::Result<()> {
     let mut trace: [u16; 4] = [10, 12, 14, 15];
-    code(&mut trace);
+    code(&rt, &mut trace)?;
     let mut short: [u16; 1] = [10];
-    code(&mut short);
+    code(&rt, &mut short)
 }

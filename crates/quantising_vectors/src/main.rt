@@ -4,51 +4,49 @@
 
 use floats::rounding::Integer;
 use kinds::Order;
-use libc::STDOUT_FILENO;
 use quantising::{Fitted, Quantised};
+use std::io;
 
-fn print(text: &[u8]) {
-    io::write_all(STDOUT_FILENO, text);
+fn print(rt: &impl Print, text: &[u8]) -> io::Result<()> {
+    rt.write_all(text)
 }
 
-fn print_integer(n: i64) {
+fn print_integer(rt: &impl Print, n: i64) -> io::Result<()> {
     if n < 0 {
         let size = ((!n) as u64) + 1;
-        print(b"-");
-        io::print_decimal(STDOUT_FILENO, size);
+        print(rt, b"-")?;
+        print!(rt; "{size}")
     } else {
-        io::print_decimal(STDOUT_FILENO, n as u64);
+        print!(rt; "{}", n as u64)
     }
 }
 
-fn print_slice(slice: &[i32]) {
+fn print_slice(rt: &impl Print, slice: &[i32]) -> io::Result<()> {
     let mut i = 0;
     while i < slice.len() {
-        print(b" ");
-        print_integer(slice[i] as i64);
+        print(rt, b" ")?;
+        print_integer(rt, slice[i] as i64)?;
         i += 1;
     }
+    Ok(())
 }
 
-fn print_line(width: &[u8], done: Quantised, slice: &[i32]) {
+fn print_line(rt: &impl Print, width: &[u8], done: Quantised, slice: &[i32]) -> io::Result<()> {
     let answer = done.answer;
     let shift = done.shift;
-    print(width);
-    io::print_decimal(STDOUT_FILENO, kinds::number(answer) as u64);
-    print(b" ");
-    io::print_decimal(STDOUT_FILENO, shift.0 as u64);
-    print(b" ");
-    print_integer(done.bias);
-    print_slice(slice);
-    print(b"\n");
+    print(rt, width)?;
+    print!(rt; "{} {} ", kinds::number(answer), shift.0)?;
+    print_integer(rt, done.bias)?;
+    print_slice(rt, slice)?;
+    print(rt, b"\n")
 }
 
-fn print_or_outside(integer: Integer) {
+fn print_or_outside(rt: &impl Print, integer: Integer) -> io::Result<()> {
     match integer {
-        Integer::At(n) => print_integer(n),
-        Integer::Outside => print(b"outside"),
+        Integer::At(n) => print_integer(rt, n)?,
+        Integer::Outside => print(rt, b"outside")?,
     }
-    print(b"\n");
+    print(rt, b"\n")
 }
 
 // The places past the order hold a NaN, which would be refused if it were read.
@@ -67,161 +65,161 @@ fn one(weight: f64, bias: f64) -> Fitted {
     fitted(weight, 0.0 / 0.0, bias, Order(1))
 }
 
-fn at_8(fit: Fitted, centre: u8) {
+fn at_8(rt: &impl Print, fit: Fitted, centre: u8) -> io::Result<()> {
     let mut slice = [77i32; 1];
     let done = quantising_8::quantise_fitted(fit, centre, &mut slice);
-    print_line(b"8: ", done, &slice);
+    print_line(rt, b"8: ", done, &slice)
 }
 
-fn at_16(fit: Fitted, centre: u16) {
+fn at_16(rt: &impl Print, fit: Fitted, centre: u16) -> io::Result<()> {
     let mut slice = [77i32; 1];
     let done = quantising_16::quantise_fitted(fit, centre, &mut slice);
-    print_line(b"16: ", done, &slice);
+    print_line(rt, b"16: ", done, &slice)
 }
 
-fn at_32(fit: Fitted, centre: u32) {
+fn at_32(rt: &impl Print, fit: Fitted, centre: u32) -> io::Result<()> {
     let mut slice = [77i32; 1];
     let done = quantising_32::quantise_fitted(fit, centre, &mut slice);
-    print_line(b"32: ", done, &slice);
+    print_line(rt, b"32: ", done, &slice)
 }
 
 // One weight, at each width, with the centre 0.
-fn at_each(weight: f64, bias: f64) {
-    at_8(one(weight, bias), 0);
-    at_16(one(weight, bias), 0);
-    at_32(one(weight, bias), 0);
+fn at_each(rt: &impl Print, weight: f64, bias: f64) -> io::Result<()> {
+    at_8(rt, one(weight, bias), 0)?;
+    at_16(rt, one(weight, bias), 0)?;
+    at_32(rt, one(weight, bias), 0)
 }
 
 // Two weights, at each width, with the centre 1.
-fn two_at_each(first: f64, second: f64, bias: f64) {
+fn two_at_each(rt: &impl Print, first: f64, second: f64, bias: f64) -> io::Result<()> {
     let fit = fitted(first, second, bias, Order(2));
     let mut slice = [77i32; 2];
     let done = quantising_8::quantise_fitted(fit, 1, &mut slice);
-    print_line(b"8: ", done, &slice);
+    print_line(rt, b"8: ", done, &slice)?;
     let mut slice16 = [77i32; 2];
     let done16 = quantising_16::quantise_fitted(fit, 1, &mut slice16);
-    print_line(b"16: ", done16, &slice16);
+    print_line(rt, b"16: ", done16, &slice16)?;
     let mut slice32 = [77i32; 2];
     let done32 = quantising_32::quantise_fitted(fit, 1, &mut slice32);
-    print_line(b"32: ", done32, &slice32);
+    print_line(rt, b"32: ", done32, &slice32)
 }
 
-fn worked() {
-    print(b"worked\n");
-    at_8(one(1.0, 0.0), 100);
-    at_8(one(0.3, 0.1), 7);
-    at_32(one(4194304.000976557, 26.0), 0);
-    at_32(one(1.0, 0.0), 0);
-    at_16(one(1.0, 0.0), 30000);
-    at_32(one(-0.75, 1000000000.5), 4294967295);
-    at_8(one(0.0, -1.999), 0);
-    two_at_each(-1.0, 2.0, 0.0);
-    two_at_each(0.1, 0.2, -0.3);
+fn worked(rt: &impl Print) -> io::Result<()> {
+    print(rt, b"worked\n")?;
+    at_8(rt, one(1.0, 0.0), 100)?;
+    at_8(rt, one(0.3, 0.1), 7)?;
+    at_32(rt, one(4194304.000976557, 26.0), 0)?;
+    at_32(rt, one(1.0, 0.0), 0)?;
+    at_16(rt, one(1.0, 0.0), 30000)?;
+    at_32(rt, one(-0.75, 1000000000.5), 4294967295)?;
+    at_8(rt, one(0.0, -1.999), 0)?;
+    two_at_each(rt, -1.0, 2.0, 0.0)?;
+    two_at_each(rt, 0.1, 0.2, -0.3)
 }
 
-fn halves() {
-    print(b"halves, at shift 0\n");
-    at_8(one(2.5, 10000.0), 0);
-    at_8(one(-2.5, 10000.0), 0);
-    at_8(one(0.5, 10000.0), 0);
-    at_8(one(-0.5, 10000.0), 0);
-    at_8(one(0.49999999999999994, 10000.0), 0);
-    at_8(one(-0.49999999999999994, 10000.0), 0);
-    at_8(one(1.5, 10000.0), 0);
-    at_8(one(3.5, -10000.0), 0);
+fn halves(rt: &impl Print) -> io::Result<()> {
+    print(rt, b"halves, at shift 0\n")?;
+    at_8(rt, one(2.5, 10000.0), 0)?;
+    at_8(rt, one(-2.5, 10000.0), 0)?;
+    at_8(rt, one(0.5, 10000.0), 0)?;
+    at_8(rt, one(-0.5, 10000.0), 0)?;
+    at_8(rt, one(0.49999999999999994, 10000.0), 0)?;
+    at_8(rt, one(-0.49999999999999994, 10000.0), 0)?;
+    at_8(rt, one(1.5, 10000.0), 0)?;
+    at_8(rt, one(3.5, -10000.0), 0)
 }
 
 // The quotient of step 3 just above, at and just below a power of two.
-fn exponents() {
-    print(b"exponents\n");
-    at_8(one(0.0, 126.99609374999999), 0);
-    at_8(one(0.0, 126.99609375), 0);
-    at_8(one(0.0, 126.99609375000001), 0);
-    at_16(one(0.0, 126.99999994039534), 0);
-    at_16(one(0.0, 126.99999994039536), 0);
-    at_16(one(0.0, 126.99999994039537), 0);
-    at_32(one(0.0, 8589934590.999999), 0);
-    at_32(one(0.0, 8589934591.0), 0);
-    at_32(one(0.0, 8589934591.000002), 0);
+fn exponents(rt: &impl Print) -> io::Result<()> {
+    print(rt, b"exponents\n")?;
+    at_8(rt, one(0.0, 126.99609374999999), 0)?;
+    at_8(rt, one(0.0, 126.99609375), 0)?;
+    at_8(rt, one(0.0, 126.99609375000001), 0)?;
+    at_16(rt, one(0.0, 126.99999994039534), 0)?;
+    at_16(rt, one(0.0, 126.99999994039536), 0)?;
+    at_16(rt, one(0.0, 126.99999994039537), 0)?;
+    at_32(rt, one(0.0, 8589934590.999999), 0)?;
+    at_32(rt, one(0.0, 8589934591.0), 0)?;
+    at_32(rt, one(0.0, 8589934591.000002), 0)
 }
 
 // The least of e-1, 31 and A-1; e of 1, and e of 0, which is refused.
-fn shifts() {
-    print(b"shifts\n");
-    at_each(0.0, 0.0);
-    at_each(-0.0, -0.0);
-    at_8(one(64.0, 62.5), 0);
-    at_8(one(64.0, 62.50000001), 0);
-    at_8(one(64.25, 0.0), 0);
-    at_16(one(16384.0, 16382.5), 0);
-    at_16(one(16384.0, 16382.50001), 0);
-    at_32(one(1073741824.0, 1073741824.0), 0);
-    at_32(one(1073741824.0, 1073743824.0), 0);
-    at_32(one(-1073741824.0, -1073741824.0), 0);
+fn shifts(rt: &impl Print) -> io::Result<()> {
+    print(rt, b"shifts\n")?;
+    at_each(rt, 0.0, 0.0)?;
+    at_each(rt, -0.0, -0.0)?;
+    at_8(rt, one(64.0, 62.5), 0)?;
+    at_8(rt, one(64.0, 62.50000001), 0)?;
+    at_8(rt, one(64.25, 0.0), 0)?;
+    at_16(rt, one(16384.0, 16382.5), 0)?;
+    at_16(rt, one(16384.0, 16382.50001), 0)?;
+    at_32(rt, one(1073741824.0, 1073741824.0), 0)?;
+    at_32(rt, one(1073741824.0, 1073743824.0), 0)?;
+    at_32(rt, one(-1073741824.0, -1073741824.0), 0)
 }
 
-fn rounded() {
-    print(b"to 32 bits, to the nearest\n");
-    print_or_outside(floats::rounding::round_away(2147483647.0, 32));
-    print_or_outside(floats::rounding::round_away(2147483647.4999995, 32));
-    print_or_outside(floats::rounding::round_away(2147483647.5, 32));
-    print_or_outside(floats::rounding::round_away(2147483648.0, 32));
-    print_or_outside(floats::rounding::round_away(-2147483648.0, 32));
-    print_or_outside(floats::rounding::round_away(-2147483648.4999995, 32));
-    print_or_outside(floats::rounding::round_away(-2147483648.5, 32));
-    print_or_outside(floats::rounding::round_away(4503599627370495.5, 32));
-    print_or_outside(floats::rounding::round_away(1.0 / 0.0, 32));
-    print_or_outside(floats::rounding::round_away(0.0 / 0.0, 32));
-    print_or_outside(floats::rounding::round_away(5e-324, 32));
+fn rounded(rt: &impl Print) -> io::Result<()> {
+    print(rt, b"to 32 bits, to the nearest\n")?;
+    print_or_outside(rt, floats::rounding::round_away(2147483647.0, 32))?;
+    print_or_outside(rt, floats::rounding::round_away(2147483647.4999995, 32))?;
+    print_or_outside(rt, floats::rounding::round_away(2147483647.5, 32))?;
+    print_or_outside(rt, floats::rounding::round_away(2147483648.0, 32))?;
+    print_or_outside(rt, floats::rounding::round_away(-2147483648.0, 32))?;
+    print_or_outside(rt, floats::rounding::round_away(-2147483648.4999995, 32))?;
+    print_or_outside(rt, floats::rounding::round_away(-2147483648.5, 32))?;
+    print_or_outside(rt, floats::rounding::round_away(4503599627370495.5, 32))?;
+    print_or_outside(rt, floats::rounding::round_away(1.0 / 0.0, 32))?;
+    print_or_outside(rt, floats::rounding::round_away(0.0 / 0.0, 32))?;
+    print_or_outside(rt, floats::rounding::round_away(5e-324, 32))
 }
 
-fn cut() {
-    print(b"to 64 bits, cut\n");
-    print_or_outside(floats::rounding::cut(9223372036854774784.0, 64));
-    print_or_outside(floats::rounding::cut(9223372036854775808.0, 64));
-    print_or_outside(floats::rounding::cut(-9223372036854775808.0, 64));
-    print_or_outside(floats::rounding::cut(-9223372036854777856.0, 64));
-    print_or_outside(floats::rounding::cut(-0.9999999999999999, 64));
-    print_or_outside(floats::rounding::cut(4503599627370495.5, 64));
-    print_or_outside(floats::rounding::cut(-1.0 / 0.0, 64));
-    print_or_outside(floats::rounding::cut(0.0 / 0.0, 64));
+fn cut(rt: &impl Print) -> io::Result<()> {
+    print(rt, b"to 64 bits, cut\n")?;
+    print_or_outside(rt, floats::rounding::cut(9223372036854774784.0, 64))?;
+    print_or_outside(rt, floats::rounding::cut(9223372036854775808.0, 64))?;
+    print_or_outside(rt, floats::rounding::cut(-9223372036854775808.0, 64))?;
+    print_or_outside(rt, floats::rounding::cut(-9223372036854777856.0, 64))?;
+    print_or_outside(rt, floats::rounding::cut(-0.9999999999999999, 64))?;
+    print_or_outside(rt, floats::rounding::cut(4503599627370495.5, 64))?;
+    print_or_outside(rt, floats::rounding::cut(-1.0 / 0.0, 64))?;
+    print_or_outside(rt, floats::rounding::cut(0.0 / 0.0, 64))
 }
 
-fn not_finite() {
-    print(b"not finite\n");
+fn not_finite(rt: &impl Print) -> io::Result<()> {
+    print(rt, b"not finite\n")?;
     let nan = 0.0f64 / 0.0;
     let infinity = 1.0f64 / 0.0;
-    two_at_each(nan, 1.0, 0.0);
-    two_at_each(1.0, nan, 0.0);
-    two_at_each(infinity, 1.0, 0.0);
-    two_at_each(1.0, -infinity, 0.0);
-    two_at_each(infinity, -infinity, 0.0);
-    two_at_each(1.0, 1.0, nan);
-    two_at_each(1.0, 1.0, infinity);
-    two_at_each(1.0, 1.0, -infinity);
+    two_at_each(rt, nan, 1.0, 0.0)?;
+    two_at_each(rt, 1.0, nan, 0.0)?;
+    two_at_each(rt, infinity, 1.0, 0.0)?;
+    two_at_each(rt, 1.0, -infinity, 0.0)?;
+    two_at_each(rt, infinity, -infinity, 0.0)?;
+    two_at_each(rt, 1.0, 1.0, nan)?;
+    two_at_each(rt, 1.0, 1.0, infinity)?;
+    two_at_each(rt, 1.0, 1.0, -infinity)
 }
 
-fn extreme() {
-    print(b"sums and products that overflow\n");
-    two_at_each(1e308, 1e308, 0.0);
-    two_at_each(1e308, -1e308, 0.0);
-    two_at_each(8e307, -8e307, 0.0);
-    two_at_each(0.0, 0.0, 1.7976931348623157e308);
-    print(b"the least floats\n");
-    two_at_each(5e-324, -5e-324, 5e-324);
+fn extreme(rt: &impl Print) -> io::Result<()> {
+    print(rt, b"sums and products that overflow\n")?;
+    two_at_each(rt, 1e308, 1e308, 0.0)?;
+    two_at_each(rt, 1e308, -1e308, 0.0)?;
+    two_at_each(rt, 8e307, -8e307, 0.0)?;
+    two_at_each(rt, 0.0, 0.0, 1.7976931348623157e308)?;
+    print(rt, b"the least floats\n")?;
+    two_at_each(rt, 5e-324, -5e-324, 5e-324)
 }
 
-fn refused() {
-    print(b"order and length\n");
-    at_8(fitted(1.0, 1.0, 0.0, Order(0)), 0);
-    at_16(fitted(1.0, 1.0, 0.0, Order(33)), 0);
-    at_32(fitted(1.0, 1.0, 0.0, Order(2)), 0);
-    at_32(fitted(0.0 / 0.0, 1.0, 0.0, Order(0)), 0);
-    at_16(fitted(0.0 / 0.0, 1.0, 0.0, Order(32)), 0);
+fn refused(rt: &impl Print) -> io::Result<()> {
+    print(rt, b"order and length\n")?;
+    at_8(rt, fitted(1.0, 1.0, 0.0, Order(0)), 0)?;
+    at_16(rt, fitted(1.0, 1.0, 0.0, Order(33)), 0)?;
+    at_32(rt, fitted(1.0, 1.0, 0.0, Order(2)), 0)?;
+    at_32(rt, fitted(0.0 / 0.0, 1.0, 0.0, Order(0)), 0)?;
+    at_16(rt, fitted(0.0 / 0.0, 1.0, 0.0, Order(32)), 0)
 }
 
-fn all_places() {
-    print(b"all 32 places\n");
+fn all_places(rt: &impl Print) -> io::Result<()> {
+    print(rt, b"all 32 places\n")?;
     let mut slice = [77i32; 32];
     let fit = Fitted {
         weights: [-0.03125; 32],
@@ -229,18 +227,18 @@ fn all_places() {
         order: Order(32),
     };
     let done = quantising_16::quantise_fitted(fit, 65535, &mut slice);
-    print_line(b"16: ", done, &slice);
+    print_line(rt, b"16: ", done, &slice)
 }
 
-fn main() {
-    worked();
-    halves();
-    exponents();
-    shifts();
-    rounded();
-    cut();
-    not_finite();
-    extreme();
-    refused();
-    all_places();
+fn main(rt: HostRuntime) -> io::Result<()> {
+    worked(&rt)?;
+    halves(&rt)?;
+    exponents(&rt)?;
+    shifts(&rt)?;
+    rounded(&rt)?;
+    cut(&rt)?;
+    not_finite(&rt)?;
+    extreme(&rt)?;
+    refused(&rt)?;
+    all_places(&rt)
 }

@@ -5,7 +5,7 @@
 // fit together differs too. Lists go by value, since the check of a lent one costs several times as much.
 #![tactic(auto)]
 
-use libc::{STDIN_FILENO, STDOUT_FILENO};
+use std::io;
 
 mod casts;
 mod coder_16;
@@ -39,36 +39,36 @@ enum Step {
     Other,
 }
 
-fn say(words: &[u8]) {
-    io::write_all(STDOUT_FILENO, words);
+fn say(rt: &impl Print, words: &[u8]) -> io::Result<()> {
+    rt.write_all(words)
 }
 
-fn say_number(n: u64) {
-    io::print_decimal(STDOUT_FILENO, n);
+fn say_number(rt: &impl Print, n: u64) -> io::Result<()> {
+    rt.print(n)
 }
 
-fn say_kind(kind: u64) {
+fn say_kind(rt: &impl Print, kind: u64) -> io::Result<()> {
     match kind {
-        1 => say(b"code"),
-        2 => say(b"code a row"),
-        3 => say(b"read"),
-        4 => say(b"write"),
-        _ => say(b"quantise"),
+        1 => say(rt, b"code"),
+        2 => say(rt, b"code a row"),
+        3 => say(rt, b"read"),
+        4 => say(rt, b"write"),
+        _ => say(rt, b"quantise"),
     }
 }
 
-fn say_tally(kind: u64, tally: Tally) {
-    say_kind(kind);
-    say(b": ");
-    say_number(tally.cases);
-    say(b" cases, ");
-    say_number(tally.differ);
-    say(b" differ");
+fn say_tally(rt: &impl Print, kind: u64, tally: Tally) -> io::Result<()> {
+    say_kind(rt, kind)?;
+    say(rt, b": ")?;
+    say_number(rt, tally.cases)?;
+    say(rt, b" cases, ")?;
+    say_number(rt, tally.differ)?;
+    say(rt, b" differ")?;
     if tally.differ != 0 {
-        say(b", the first on line ");
-        say_number(tally.first);
+        say(rt, b", the first on line ")?;
+        say_number(rt, tally.first)?;
     }
-    say(b"\n");
+    say(rt, b"\n")
 }
 
 fn one_more(n: u64) -> u64 {
@@ -109,7 +109,7 @@ fn run_line(words: &[u8], kind: u64) -> Step {
 }
 
 // Runs the cases of one kind, up to the first line that is none of them, or that has no end.
-fn section(words: &[u8], from: Cursor, kind: u64) -> Cursor {
+fn section(rt: &impl Print, words: &[u8], from: Cursor, kind: u64) -> io::Result<Cursor> {
     let mut at = from.at;
     let mut line = from.line;
     let mut tally = Tally {
@@ -129,33 +129,32 @@ fn section(words: &[u8], from: Cursor, kind: u64) -> Cursor {
         at = end + 1;
         line = one_more(line);
     }
-    say_tally(kind, tally);
-    Cursor { at, line }
+    say_tally(rt, kind, tally)?;
+    Ok(Cursor { at, line })
 }
 
-fn finish(end: usize, last: Cursor) {
+fn finish(rt: &impl Print, end: usize, last: Cursor) -> io::Result<()> {
     if last.at == end {
-        say(b"read to the end\n");
-        return;
+        return say(rt, b"read to the end\n");
     }
-    say(b"STOPPED: no case in its place on line ");
-    say_number(last.line);
-    say(b"\n");
+    say(rt, b"STOPPED: no case in its place on line ")?;
+    say_number(rt, last.line)?;
+    say(rt, b"\n")
 }
 
-fn replay(words: &[u8]) {
+fn replay(rt: &impl Print, words: &[u8]) -> io::Result<()> {
     let start = Cursor { at: 0, line: 1 };
-    let coded = section(words, start, 1);
-    let summed = section(words, coded, 2);
-    let read = section(words, summed, 3);
-    let written = section(words, read, 4);
-    let quantised = section(words, written, 5);
-    finish(words.len(), quantised);
+    let coded = section(rt, words, start, 1)?;
+    let summed = section(rt, words, coded, 2)?;
+    let read = section(rt, words, summed, 3)?;
+    let written = section(rt, words, read, 4)?;
+    let quantised = section(rt, words, written, 5)?;
+    finish(rt, words.len(), quantised)
 }
 
 // A longer file is cut, so that its last line has no end, and the program says that it stopped there.
-fn main() {
+fn main(rt: HostRuntime) -> io::Result<()> {
     let mut space: [u8; 131072] = [0; 131072];
-    let n = io::read_full(STDIN_FILENO, &mut space);
-    replay(&space[0..n]);
+    let n = text::input::read_full(&mut rt.reader(), &mut space)?;
+    replay(&rt, &space[0..n])
 }

@@ -133,5 +133,6 @@ pub fn next_word(text: &[u8], from: usize) -> Word
     }
 }
 
+pub mod input;
 pub mod places;
 pub mod signed;

@@ -7,8 +7,8 @@
 
 ghost use Rattle.std.specs.Prelude.{◌≤◌};
 
-use libc::STDIN_FILENO;
 use reading::{Configuration, Fault, Head, Numbers, Wanted};
+use std::io;
 
 mod coding;
 mod reading;
@@ -20,28 +20,38 @@ mod saying;
 const MOST_BYTES: usize = 65536;
 
 // With the whole text read.
-fn with_trace(text: &[u8], c: Configuration, weights: Numbers, trace: Numbers)
+fn with_trace(
+    rt: &impl Print,
+    text: &[u8],
+    c: Configuration,
+    weights: Numbers,
+    trace: Numbers,
+) -> io::Result<()>
     requires { (weights.count ≤ 4096) × (trace.count ≤ 4096) }
 {
     let coded = coding::encode(c, weights, trace);
     let answer = coded.answer;
     if kinds::is_done(answer) {
-        report::report(c, weights, trace, coded);
-        return;
+        return report::report(rt, c, weights, trace, coded);
     }
-    refusing::say_refusal(text, c, trace.count, answer);
+    refusing::say_refusal(rt, text, c, trace.count, answer)
 }
 
 // With the first line read, up to `end`.
-fn with_weights(text: &[u8], end: usize, c: Configuration, weights: Numbers)
+fn with_weights(
+    rt: &impl Print,
+    text: &[u8],
+    end: usize,
+    c: Configuration,
+    weights: Numbers,
+) -> io::Result<()>
     requires { weights.count ≤ 4096 }
 {
     let width = c.width;
     let most = admission::limits::greatest_sample(width);
     let trace = reading::read_numbers(text, end, Wanted::Sample(most), 4096);
     if trace.ended {
-        with_trace(text, c, weights, trace);
-        return;
+        return with_trace(rt, text, c, weights, trace);
     }
     let wanted = if trace.count < 4096 {
         Wanted::Sample(most)
@@ -49,53 +59,54 @@ fn with_weights(text: &[u8], end: usize, c: Configuration, weights: Numbers)
         Wanted::EndOfTrace
     };
     refusing::say_fault(
+        rt,
         text,
         Fault {
             wanted,
             at: trace.next,
         },
-    );
+    )
 }
 
 // With the first four numbers of the first line read. An order is at most 32, so that with more weights than 32 every coder gives the
 // same refusal, whatever they are and however many: one more than that is enough.
-fn with_head(text: &[u8], line: &[u8], c: Configuration) {
+fn with_head(rt: &impl Print, text: &[u8], line: &[u8], c: Configuration) -> io::Result<()> {
     let weights = reading::read_numbers(line, c.end, Wanted::Weight, 33);
     if !weights.ended && weights.count < 33 {
-        refusing::say_fault(
+        return refusing::say_fault(
+            rt,
             text,
             Fault {
                 wanted: Wanted::Weight,
                 at: weights.next,
             },
         );
-        return;
     }
-    with_weights(text, line.len(), c, weights);
+    with_weights(rt, text, line.len(), c, weights)
 }
 
-fn answer(text: &[u8]) {
+fn answer(rt: &impl Print, text: &[u8]) -> io::Result<()> {
     let end = text::places::line_length(text);
     let line = &text[0..end];
     let head = reading::read_head(line);
     match head {
-        Head::Unread(fault) => refusing::say_fault(text, fault),
-        Head::Read(c) => with_head(text, line, c),
+        Head::Unread(fault) => refusing::say_fault(rt, text, fault),
+        Head::Read(c) => with_head(rt, text, line, c),
     }
 }
 
-fn main() {
+fn main(rt: HostRuntime) -> io::Result<()> {
     let mut input: [u8; 65537] = [0; 65537];
-    let n = io::read_full(STDIN_FILENO, &mut input);
+    let n = text::input::read_full(&mut rt.reader(), &mut input)?;
     if MOST_BYTES < n {
-        refusing::say_fault(
+        return refusing::say_fault(
+            &rt,
             &input,
             Fault {
                 wanted: Wanted::EndOfInput,
                 at: MOST_BYTES,
             },
         );
-        return;
     }
-    answer(&input[0..n]);
+    answer(&rt, &input[0..n])
 }

@@ -5,6 +5,7 @@ use crate::coding::Coded;
 use crate::reading::{Configuration, Numbers};
 use crate::saying::{say, say_row, say_with};
 use kinds::Width;
+use std::io;
 
 // Sizes of pieces: 1, 2, 4 and so on up to 64. The first are shorter than most orders, the case in which a state is partly the
 // state before it; the last are as long as the pieces that a queue hands on.
@@ -16,7 +17,13 @@ fn next_size(size: usize) -> usize
 }
 
 // Prints each piece of the n - k residuals and decodes it.
-fn decode_pieces(c: Configuration, weights: Numbers, n: usize, coded: Coded) -> Coded
+fn decode_pieces(
+    rt: &impl Print,
+    c: Configuration,
+    weights: Numbers,
+    n: usize,
+    coded: Coded,
+) -> io::Result<Coded>
     requires { (weights.count ≤ 4096) × (n ≤ 4096) × (c.order.0 ≤ n) }
 {
     let width = c.width;
@@ -28,18 +35,19 @@ fn decode_pieces(c: Configuration, weights: Numbers, n: usize, coded: Coded) -> 
     while start < n {
         let end = start + slices::least(n - start, size);
         say_with(
+            rt,
             b"a piece of #, from place # on:",
             (end - start) as u64,
             start as u64,
-        );
-        say_row(residuals, start, end);
+        )?;
+        say_row(rt, residuals, start, end)?;
         let row = held.row;
         let state = held.state;
         held = crate::coding::decode(c, weights, row, state, start, end);
         start = end;
         size = next_size(size);
     }
-    held
+    Ok(held)
 }
 
 // How many numbers from a place on are those of the trace from another on, before the first that differs.
@@ -73,16 +81,16 @@ fn agreeing_samples(c: Configuration, last: Coded, trace: [u64; 4096], n: usize)
 }
 
 // `same` samples from the front on are those of the trace.
-fn say_verdict(same: usize, samples: usize) {
+fn say_verdict(rt: &impl Print, same: usize, samples: usize) -> io::Result<()> {
     if same < samples {
-        say_with(
+        return say_with(
+            rt,
             b"NOT WHOLE: the first difference is at place #\n",
             same as u64,
             0,
         );
-        return;
     }
-    say_with(b"whole: the # samples came back\n", samples as u64, 0);
+    say_with(rt, b"whole: the # samples came back\n", samples as u64, 0)
 }
 
 // MID: half of M and 1. A residual of MID says that the prediction was right.
@@ -90,33 +98,41 @@ fn middle(width: Width) -> u64 {
     admission::limits::greatest_sample(width) / 2 + 1
 }
 
-fn say_state(c: Configuration, coded: Coded) {
+fn say_state(rt: &impl Print, c: Configuration, coded: Coded) -> io::Result<()> {
     let width = c.width;
     let state = coded.state;
-    say(b"saved state:");
+    say(rt, b"saved state:")?;
     say_row(
+        rt,
         crate::coding::to_numbers(width, state),
         0,
         slices::least(c.order.0, 32),
-    );
+    )
 }
 
-pub(crate) fn report(c: Configuration, weights: Numbers, trace: Numbers, coded: Coded)
+pub(crate) fn report(
+    rt: &impl Print,
+    c: Configuration,
+    weights: Numbers,
+    trace: Numbers,
+    coded: Coded,
+) -> io::Result<()>
     requires { (weights.count ≤ 4096) × (trace.count ≤ 4096) }
 {
     let n = trace.count;
     let width = c.width;
     let samples = trace.values;
     if n < c.order.0 {
-        return;
+        return Ok(());
     }
-    crate::saying::say_configuration(c, weights, n);
-    say_state(c, coded);
+    crate::saying::say_configuration(rt, c, weights, n)?;
+    say_state(rt, c, coded)?;
     say_with(
+        rt,
         b"residuals, sample - prediction + MID, where MID is #; places are counted from 0:\n",
         middle(width),
         0,
-    );
-    let last = decode_pieces(c, weights, n, coded);
-    say_verdict(agreeing_samples(c, last, samples, n), n);
+    )?;
+    let last = decode_pieces(rt, c, weights, n, coded)?;
+    say_verdict(rt, agreeing_samples(c, last, samples, n), n)
 }

@@ -1,0 +1,20 @@
+// Reading an input whole.
+ghost use Rattle.std.specs.Prelude.{◌≤◌, length, IfOk};
+
+use std::io;
+use std::io::Read;
+
+// Reads until the space is full or the input ends, and says how many bytes it put at the front.
+pub fn read_full<R: Read>(from: &mut R, space: &mut [u8]) -> io::Result<usize>
+    ensures { IfOk result (λ n. n ≤ length space.new) }
+{
+    let mut done = 0;
+    while done < space.len() {
+        let n = from.read(&mut space[done..])?;
+        if n == 0 {
+            break;
+        }
+        done += n;
+    }
+    Ok(done)
+}
