@@ -2,16 +2,16 @@
 -- to the first, each over samples that are still the original ones, code the whole. Over the width W, the bytes n of an entry, the
 -- order k and any predictor p. Assumes nothing.
 use mathlib.Core.Path.{◌≡◌, refl, sym, ap, ◌∙◌}
-use mathlib.Core.Bool.{Bool, true, false, cond}
-use mathlib.Core.List.{List, [], ◌∷◌, ◌++◌, append_assoc, append-nil}
-use Prim.Native.Nat.{ℕ, zero, suc, ◌+◌, ◌-◌, ◌*◌, ◌/◌, ◌≤◌, ◌<◌}
-use native.Mathlib.Nat.{mul-zero, mul-add, mul-le-mul_left, mul-div_cancel_left, zero-sub, sub-zero, suc-sub-suc}
+use mathlib.Core.Bool.{Bool, true, false}
+use mathlib.Core.List.{List, ◌++◌, append_assoc, append-nil}
+use Prim.Native.Nat.{ℕ, ◌+◌, ◌-◌, ◌*◌, ◌/◌, ◌≤◌, ◌<◌}
+use native.Mathlib.Nat.{mul-zero, mul-add, mul-le-mul_left, mul-div_cancel_left, sub-zero}
 use native.Mathlib.Omega.{arith}
 use borrow.Author.Tests.{ltb-true, ltb-false, lt-ltb, le-ltb}
 use borrow.Rule.Slice.PartMut.{put_mid}
 use lib.Dec.{ltb}
 use lib.ListN.{length, get_or, take, drop, length-append, length-take, length-drop, drop_of_length-le, take-append-drop}
-use lib.Seq.{take-nil, take_at, drop_at, take_all, take-take, drop-drop, drop-append-le, length-take-le, get_or-take, get_or-drop, ext_get_or}
+use lib.Seq.{take_at, drop_at, take_all, take-take, drop-drop, drop-append-le, length-take-le, get_or-take, get_or-drop, ext_get_or}
 use Rattle.rule.specs.Coding.{window, coded_at, encoded_buffer}
 use Rattle.rule.proofs.Filling.{get_d_tabulate, length_encoded}
 use Rattle.rule.proofs.Parts.{drop-take}

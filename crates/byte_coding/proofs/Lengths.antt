@@ -7,21 +7,20 @@ use Prim.Native.Nat.{ℕ, ◌*◌, ◌/◌, ◌%◌, ◌<◌, ◌≤◌}
 use native.Mathlib.Nat.{div-add-mod}
 use native.Mathlib.Omega.{arith}
 use borrow.Author.Tests.{eqb-true, eq-eqb}
-use lib.Dec.{eqb, ltb}
+use lib.Dec.{eqb}
 use lib.IntN.{ℤ}
 use lib.ListN.{length, take, drop, length-map}
 use lib.Seq.{take_at}
 use mir.Syntax.{w32}
 use mir.Val.{to_z}
 use Rattle.kinds.specs.declared.Answer.{Answer}
-use Rattle.kinds.specs.declared.Answer.TheVariants.{Done, BadOrder, BadShift, BadLength, Overflows, TooFewSamples}
+use Rattle.kinds.specs.declared.Answer.TheVariants.{Done, BadOrder, BadShift, BadLength}
 use Rattle.kinds.specs.declared.Width.{Width}
 use Rattle.kinds.specs.declared.Width.TheVariants.{Eight, Sixteen, ThirtyTwo}
-use Rattle.kinds.specs.Answers.{refuse, is_done, when_done}
+use Rattle.kinds.specs.Answers.{refuse, is_done}
 use Rattle.kinds.specs.Widths.{bits_of}
 use Rattle.rule.specs.Configuration.{Config}
 use Rattle.rule.specs.Refusals.{order_fits, shift_fits, coding_refusal, encoding_refusal}
-use Rattle.rule.specs.Prediction.{admitted}
 use Rattle.rule.proofs.Passing.{order_few, both}
 use Rattle.entries.specs.Entries.{entries, is_entire}
 use Rattle.entries.proofs.Lists.{length_entries}

@@ -107,7 +107,7 @@ module _ (w : Width) where
     bytes_done state samples [] parts each = tt
     bytes_done state samples (a ∷ asked) parts each =
         rw (call_in_bytes a.way state a.piece samples parts.0)
-        (each.0, bytes_done _ (call_samples a.way state (samples_in W a.piece) samples) asked parts.1 each.1)
+        (each.0, bytes_done (decoding.decode_by a.way W c state (samples_in W a.piece)).state (call_samples a.way state (samples_in W a.piece) samples) asked parts.1 each.1)
 
     bytes_given : (state : List ℕ) → Samples W state → (asked : List Asked) → AllDivided W asked
         → let ds = decodings W c state (in_samples W asked) in
@@ -117,7 +117,7 @@ module _ (w : Width) where
     bytes_given state samples (a ∷ asked) parts =
         let d = decoding.decode_by a.way W c state (samples_in W a.piece) in
         rw (call_in_bytes a.way state a.piece samples parts.0, append_assoc (samples_bytes W d.piece), append_assoc d.piece, lists.bytes_append (W / 8) d.piece)
-        (ap (λ (later : List ℕ). samples_bytes W d.piece ++ later) (bytes_given _ (call_samples a.way state (samples_in W a.piece) samples) asked parts.1))
+        (ap (λ (later : List ℕ). samples_bytes W d.piece ++ later) (bytes_given (decoding.decode_by a.way W c state (samples_in W a.piece)).state (call_samples a.way state (samples_in W a.piece) samples) asked parts.1))
 
     bytes_zero : (state : List ℕ) → Samples W state → (asked : List Asked) → AllDivided W asked
         → Each (λ (n : decoding.Numbered). n.number ≡ 0) (numbered_decodings W c state (in_samples W asked))
@@ -125,7 +125,7 @@ module _ (w : Width) where
     bytes_zero state samples [] parts each = tt
     bytes_zero state samples (a ∷ asked) parts each =
         rw (call_in_bytes a.way state a.piece samples parts.0)
-        (each.0, bytes_zero _ (call_samples a.way state (samples_in W a.piece) samples) asked parts.1 each.1)
+        (each.0, bytes_zero (decoding.decode_by a.way W c state (samples_in W a.piece)).state (call_samples a.way state (samples_in W a.piece) samples) asked parts.1 each.1)
 
     numbered_given : (state : List ℕ) → Samples W state → (asked : List Asked) → AllDivided W asked
         → let ns = numbered_decodings W c state (in_samples W asked) in
@@ -135,7 +135,7 @@ module _ (w : Width) where
     numbered_given state samples (a ∷ asked) parts =
         let d = decoding.decode_by a.way W c state (samples_in W a.piece) in
         rw (call_in_bytes a.way state a.piece samples parts.0, append_assoc (samples_bytes W d.piece), append_assoc d.piece, lists.bytes_append (W / 8) d.piece)
-        (ap (λ (later : List ℕ). samples_bytes W d.piece ++ later) (numbered_given _ (call_samples a.way state (samples_in W a.piece) samples) asked parts.1))
+        (ap (λ (later : List ℕ). samples_bytes W d.piece ++ later) (numbered_given (decoding.decode_by a.way W c state (samples_in W a.piece)).state (call_samples a.way state (samples_in W a.piece) samples) asked parts.1))
 
   -- ---- encoding, and then the calls
   module _ (c : Config) (weights samples state : List ℕ) (below : Bytes samples) (held : Bytes state) (asked : List Asked)

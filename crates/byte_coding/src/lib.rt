@@ -60,6 +60,7 @@ pub fn layout_answer(
 }
 
 // The same for decoding by a way: the way of order 6 refuses every other order first.
+#[tactic(auto, unfolding(crate::specs::Lengths::layout_by))]
 pub fn layout_answer_by(
     way: Way,
     width: Width,
