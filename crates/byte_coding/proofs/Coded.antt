@@ -16,7 +16,7 @@ use Rattle.rule.specs.Coding.{window, coded_at, encoded_buffer}
 use Rattle.rule.proofs.Filling.{get_d_tabulate, length_encoded}
 use Rattle.rule.proofs.Parts.{drop-take}
 use Rattle.entries.specs.Entries.{entries, bytes_of_all}
-use Rattle.entries.proofs.Bytes.{Bytes, take_bytes}
+use Rattle.entries.proofs.Bytes.{Bytes}
 use Rattle.entries.proofs.Lists as lists
 
 -- the bytes of the first k samples are the first bytes
@@ -25,9 +25,9 @@ front_entries n some bytes k h =
     let inside : n * 0 + n * k ≤ length bytes = omega (arith, mul-zero n) in
     rw mul-zero at (lists.entries_part n some bytes 0 k inside)
 
-pub first_bytes : (n : ℕ) → 0 < n → (bytes : List ℕ) → Bytes bytes → (k : ℕ) → n * k ≤ length bytes → take (n * k) bytes ≡ bytes_of_all n (take k (entries n bytes))
-first_bytes n some bytes are k h =
-    sym (lists.bytes_of_entries n some (take (n * k) bytes) (take_bytes (n * k) are) k (length-take-le (n * k) bytes h))
+pub first_bytes : (n : ℕ) → 0 < n → (bytes : List ℕ) (k : ℕ) → Bytes (take (n * k) bytes) → n * k ≤ length bytes → take (n * k) bytes ≡ bytes_of_all n (take k (entries n bytes))
+first_bytes n some bytes k are h =
+    sym (lists.bytes_of_entries n some (take (n * k) bytes) are k (length-take-le (n * k) bytes h))
     ∙ ap (bytes_of_all n) (front_entries n some bytes k h)
 
 -- ---- the samples of a part
