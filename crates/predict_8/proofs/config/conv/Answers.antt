@@ -1,5 +1,5 @@
 -- The weights so far stand in front of the zeros; each fits the accumulator, since the configuration is admitted.
-use Rattle.std.proofs.Common.{◌≡◌, ◌∙◌, ap, ◌++◌, ◌-◌, ℤ, pos, length, get_or, replicate, SFits, to_z, of_z, arith, to_z-of_z}
+use Rattle.std.proofs.Common.{◌≡◌, ◌∙◌, ap, ◌++◌, ◌-◌, ℤ, pos, length, get_or, replicate, SFits, to_z, of_z, arith, rules, w32, to_z-of_z}
 use Rattle.std.proofs.Math.Seq.{take-length}
 use lib.Dec.{lit<, lit≤}
 use Rattle.rule.specs.Configuration.{config}
@@ -9,12 +9,19 @@ use Rattle.predict.proofs.Converting.{weights_held}
 use Rattle.sample_8.specs.Width.{W, acc}
 use Rattle.predict_8.proofs.config.conv.Goals as goal
 
+pub weight_to_conv-requires : goal.weight_to_conv-requires
+weight_to_conv-requires c =
+    let ws = c.args.weights.now in
+    let i = c.loop-i.i in
+    let own : to_z w32 (of_z w32 (get_or ws i (pos 0))) ≡ get_or ws i (pos 0) = to_z-of_z {w = w32} (search rules) in
+    rw own (sums.fits {W = W} (lit≤ tt) (sums.weight_inside W _ ws c.requires.admits (lit< tt) i))
+
 pub loop-i-preserved : goal.loop-i-preserved
 loop-i-preserved c =
     let ws = c.args.weights.now in
     let i = c.loop-i.i in
     let fits : SFits acc (get_or ws i (pos 0)) = sums.fits {W = W} (lit≤ tt) (sums.weight_inside W _ ws c.requires.admits (lit< tt) i) in
-    let e : c.weight_to_conv.result ≡ get_or ws i (pos 0) = c.weight_to_conv.ensures ∙ to_z-of_z fits in (
+    let e : c.weight_to_conv.result ≡ get_or ws i (pos 0) = c.weight_to_conv.ensures ∙ to_z-of_z {w = w32} (search rules) in (
       omega arith,
       filling.fill_turn (pos 0) (omega arith) (ap (λ (z : ℤ). to_z acc (of_z acc z)) e ∙ to_z-of_z fits) c.loop-i.invariant.1,
     )
