@@ -141,6 +141,7 @@ fn bit_size(encoding: DeltaEncoding) -> usize
 }
 
 // The tests for a buffer of `room` bytes: the first that holds, in the order of their numbers.
+#[tactic(auto, unfolding(record::specs::Writing::writing_refusal))]
 pub fn refusal(encoding: DeltaEncoding, room: usize) -> Answer
     ensures { result ≡ writing_refusal encoding room }
 {

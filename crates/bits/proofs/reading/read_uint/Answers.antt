@@ -1,6 +1,6 @@
 -- `read_uint` refuses a field that is too wide or that the bytes do not hold; the test by touched bytes is that of the definition
 use Rattle.std.proofs.Common.{sym, ap, ◌∙◌, arith}
-use borrow.Author.Tests.{lt-leb}
+use Rattle.std.proofs.lemmas.Bool.{lt-leb}
 use Rattle.bits.specs.Fields.{found}
 use Rattle.bits.specs.declared.Found.TheVariants.{Number}
 use Rattle.bits.proofs.Fields.{found_number, found_missing}

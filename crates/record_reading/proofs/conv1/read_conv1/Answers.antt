@@ -1,7 +1,7 @@
 -- each field is missing, or its number is handed on; an order of five bits more 1 is 1 to 32, so that the test 1 never refuses
 use Rattle.std.proofs.Common.{◌≡◌, ◌<◌, ◌+◌, ◌*◌, List, ℕ, ℤ, length, true, sym, ap, ◌∙◌, arith, w64, to_z, of_z, FitsSigned}
 use Rattle.std.proofs.lemmas.Bool.{le-leb, leb-true}
-use mir.Facts.{to_z-of_z}
+use Rattle.std.proofs.Math.Facts.{to_z-of_z}
 use Rattle.bits.specs.Fields.{field_at, found, holds}
 use Rattle.bits.specs.declared.Found.{Found}
 use Rattle.bits.specs.declared.Found.TheVariants.{Number}

@@ -1,7 +1,7 @@
 -- a turn's weight is missing, or stands behind those before it
 use Rattle.std.proofs.Common.{◌≡◌, ◌<◌, ◌+◌, ◌*◌, List, ℕ, ℤ, length, true, sym, ap, ◌∙◌, arith, w32, to_z, of_z, FitsSigned, set}
 use Rattle.std.proofs.lemmas.Bool.{le-leb, lt-leb, leb-true, leb-false}
-use mir.Facts.{to_z-of_z}
+use Rattle.std.proofs.Math.Facts.{to_z-of_z}
 use Rattle.bits.specs.Fields.{field_at, found, holds}
 use Rattle.bits.specs.declared.Found.{Found}
 use Rattle.bits.specs.declared.Found.TheVariants.{Number}
