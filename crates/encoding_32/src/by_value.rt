@@ -50,6 +50,7 @@ pub fn encode_in_place(
 
 // The same with the state lent, and the residuals come back as the part of `samples` that holds them, or as an empty part after a
 // refusal, with the answer's number beside it.
+#[tactic(auto, using(rule::proofs::Passing::encoding_passed, calls::proofs::Leaving::encode_said))]
 pub fn encode<'a, 'b, 'c>(
     order: Order,
     shift: Shift,
