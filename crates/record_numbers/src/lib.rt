@@ -65,6 +65,7 @@ fn refuse(answer: Answer) -> Readout
 
 // Reads a record; its array of weights goes into the lent slice, which is tested first. `variants` is false for files that hold only
 // an order.
+#[tactic(auto, unfolding(crate::specs::Calls::read_into))]
 pub fn read(bytes: &[u8], variants: bool, weights: &mut [i32]) -> Readout
     ensures value { result ≡ read_numbers bytes.now variants weights.old }
     ensures weights_after { weights.new ≡ weights_after bytes.now variants weights.old }
@@ -110,6 +111,7 @@ fn record_of(numbers: Numbers, weights: &[i32]) -> DeltaRecord
 }
 
 // Writes the record of the numbers; a Conv1 has as many weights as its order says.
+#[tactic(auto, using(crate::proofs::Weights::few), unfolding(crate::specs::Calls::write_numbers, crate::specs::Calls::bytes_after_numbers))]
 pub fn write(numbers: Numbers, weights: &[i32], bytes: &mut [u8]) -> Writing
     ensures value { result ≡ write_numbers numbers weights.now (length bytes.old) }
     ensures bytes_after { bytes.new ≡ bytes_after_numbers numbers weights.now bytes.old }

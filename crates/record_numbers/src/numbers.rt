@@ -116,6 +116,7 @@ fn conv1_answer(order: Order, weights: WeightCount) -> Answer
 }
 
 // The tests that come before there is a record.
+#[tactic(auto, unfolding(crate::specs::Refusals::numbers_refusal))]
 pub fn numbers_answer(numbers: Numbers, weights: WeightCount) -> Answer
     ensures { result ≡ numbers_refusal numbers weights.0 }
 {
