@@ -1,5 +1,5 @@
 -- The sums are those of `Running`, and so each one fits.
-use Rattle.std.proofs.Common.{ℕ, ◌<◌, ◌^◌, ℤ, pos, List, get_or, refl, SFits, to_z-of_z}
+use Rattle.std.proofs.Common.{ℕ, ◌<◌, ◌^◌, ℤ, pos, List, ◌+ℤ◌, ◌*ℤ◌, get_or, refl, SFits, to_z, of_z, to_z-of_z}
 use lib.Dec.{lit<, lit≤}
 use Rattle.rule.proofs.Sums as sums
 use Rattle.order_six.specs.Running.{Runs, Grows}
@@ -26,6 +26,11 @@ module _ {bias : ℤ} {ws ns : List ℤ} {xs : List ℕ} (r : Runs W bias ws xs 
   weight_fits : SFits wide (get_or ws 0 (pos 0))
   weight_fits = sums.fits {W = W} (lit≤ tt) (sums.weight_inside W bias ws r.admits (lit< tt) 0)
 
+  -- the new sum is made of the bias's bits and the first weight's
+  last : SFits wide bias
+      → SFits wide (to_z wide (of_z wide (get_or ws 0 (pos 0))) *ℤ pos y) × SFits wide (to_z wide (of_z wide bias) +ℤ to_z wide (of_z wide (get_or ws 0 (pos 0))) *ℤ pos y)
+  last f = rw (to_z-of_z weight_fits, to_z-of_z f) (law.asked r y small wide (lit≤ tt) 0 (lit< tt) bias refl)
+
 pub more-requires : goal.more-requires
 more-requires c = one c.requires c.ranges.sample.fits
 
@@ -42,10 +47,7 @@ pub more-requires-5 : goal.more-requires-5
 more-requires-5 c = five c.requires c.ranges.sample.fits
 
 pub added-requires : goal.added-requires
-added-requires c =
-    let small = c.ranges.sample.fits in
-    rw (to_z-of_z (weight_fits c.requires small), to_z-of_z c.ranges.bias)
-    (law.asked c.requires c.args.sample small wide (lit≤ tt) 0 (lit< tt) c.args.bias refl)
+added-requires c = last c.requires c.ranges.sample.fits c.ranges.bias
 
 pub returns : goal.returns
 returns c =
