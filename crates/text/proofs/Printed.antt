@@ -1,19 +1,11 @@
 -- A number that was printed is read again: `number` of its decimal digits is that number, both of those that std's `{}` writes and of
--- those with zeros before them. Assumes nothing.
+-- those that the kit's `io::decimal` writes, with zeros before them. Assumes nothing.
 use Rattle.std.proofs.Common.{◌≡◌, refl, ap, ◌∙◌, ℕ, zero, suc, ◌+◌, ◌/◌, ◌%◌, ◌^◌, ◌<◌, ◌≤◌, Bool, true, false, cond, ◌&&◌, List, [], ◌∷◌, ◌++◌, decimal, ltb, pow-suc, arith, lt-ltb, le-leb}
 use Rattle.std.proofs.lemmas.Fmt.{decimal_by_steps, decimal_nonempty}
+use Rattle.io.specs.Digits.{hex_digit_ascii, last_digits}
 use Rattle.text.specs.declared.Found.TheVariants.{Nothing, Number}
 use Rattle.text.specs.Words.{is_digit, grown, number_after, number}
 use Rattle.text.proofs.Scans.{number_some}
-
--- the ASCII code of a digit below 16: `0` to `9`, then `a` to `f`
-abbrev pub hex_digit_ascii : ℕ → ℕ
-hex_digit_ascii d = cond (ltb d 10) (48 + d) (87 + d)
-
--- the last k digits of n in base b, the most significant first
-abbrev pub last_digits : ℕ → ℕ → ℕ → List ℕ
-last_digits b zero n = []
-last_digits b (suc k) n = last_digits b k (n / b) ++ (hex_digit_ascii (n % b) ∷ [])
 
 -- one digit more at the end
 longer : (v : ℕ) (xs : List ℕ) (u b : ℕ) → number_after v xs ≡ Number u → is_digit b ≡ true → grown u b < 2 ^ 64 → number_after v (xs ++ (b ∷ [])) ≡ Number (grown u b)
