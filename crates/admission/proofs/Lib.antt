@@ -1,1 +1,2 @@
+pub mod Magnitudes
 pub mod Budget
