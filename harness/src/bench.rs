@@ -22,12 +22,7 @@ const ORDERS: [usize; 6] = [1, 2, 6, 8, 16, 32];
 pub fn archive() -> String {
     let path = Path::new(crate::ARCHIVE);
     let place = path.strip_prefix(env!("CLASPOTTER_REPOSITORY")).unwrap_or(path).display();
-    let what = if cfg!(target_arch = "x86_64") {
-        "what rt staticlib compiles"
-    } else {
-        "the proved module, compiled again for this machine; not the archive that the kit vouches for"
-    };
-    format!("{place} ({what})")
+    format!("{place} (what rt lib compiles)")
 }
 
 fn machine() -> String {

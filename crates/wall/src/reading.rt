@@ -42,7 +42,7 @@ pub enum Head {
     Read(Configuration),
 }
 
-// Numbers in the first `count` places; a weight stands as its 32 bits. There is no heap, so there is room for the longest trace. Reading
+// Numbers in the first `count` places; a weight stands as its 32 bits. No heap is used, so there is room for the longest trace. Reading
 // stopped before the word at `next`, or at the end of the text.
 #[derive(Clone, Copy)]
 pub struct Numbers {
