@@ -1,15 +1,10 @@
 -- the variant is missing, or picks what is read as the definition does
-use Rattle.std.proofs.Common.{◌≡◌, List, ℕ, true, sym, ◌∙◌, arith}
+use Rattle.std.proofs.Common.{sym, ◌∙◌, arith}
 use Rattle.std.proofs.lemmas.Bool.{ne_eqb}
-use Rattle.bits.specs.Fields.{field_at, found, holds}
-use Rattle.bits.specs.declared.Found.{Found}
-use Rattle.bits.specs.declared.Found.TheVariants.{Number}
-use Rattle.bits.proofs.Fields.{absent, present}
+use Rattle.bits.proofs.Fields.{absent}
 use Rattle.record.specs.Reading.{reading, read_variant}
+use Rattle.record_reading.proofs.Fields.{told}
 use Rattle.record_reading.proofs.read_variant.Goals as goal
-
-variant : (bytes : List ℕ) (r : Found) (v : ℕ) → r ≡ found bytes 0 4 → r ≡ Number v → (holds bytes 0 4 ≡ true) × (field_at bytes 0 4 ≡ v)
-variant bytes r v e is = present bytes 0 4 v (omega arith) (sym e ∙ is)
 
 pub returns-in_default : goal.returns-in_default
 unfolding read_variant reading
@@ -19,31 +14,31 @@ returns-in_default c =
 pub returns-in-0 : goal.returns-in-0
 unfolding read_variant reading
 returns-in-0 c =
-    let v = variant c.args.bytes.now _ _ c.read_uint.ensures c.in-Number.is in
+    let v = told c.args.bytes.now 0 4 (omega arith) c.read_uint.ensures c.in-Number.is in
     rw (v.0, v.1, c.in-0.is) c.give.ensures
 
 pub returns-in-1 : goal.returns-in-1
 unfolding read_variant reading
 returns-in-1 c =
-    let v = variant c.args.bytes.now _ _ c.read_uint.ensures c.in-Number.is in
+    let v = told c.args.bytes.now 0 4 (omega arith) c.read_uint.ensures c.in-Number.is in
     rw (v.0, v.1, c.in-1.is) c.read_consecutive.ensures
 
 pub returns-in-2 : goal.returns-in-2
 unfolding read_variant reading
 returns-in-2 c =
-    let v = variant c.args.bytes.now _ _ c.read_uint.ensures c.in-Number.is in
+    let v = told c.args.bytes.now 0 4 (omega arith) c.read_uint.ensures c.in-Number.is in
     rw (v.0, v.1, c.in-2.is) c.read_lookback.ensures
 
 pub returns-in-3 : goal.returns-in-3
 unfolding read_variant reading
 returns-in-3 c =
-    let v = variant c.args.bytes.now _ _ c.read_uint.ensures c.in-Number.is in
+    let v = told c.args.bytes.now 0 4 (omega arith) c.read_uint.ensures c.in-Number.is in
     rw (v.0, v.1, c.in-3.is) c.read_conv1.ensures
 
 pub returns-in_default-variant : goal.returns-in_default-variant
 unfolding read_variant reading
 returns-in_default-variant c =
-    let v = variant c.args.bytes.now _ _ c.read_uint.ensures c.in-Number.is in
+    let v = told c.args.bytes.now 0 4 (omega arith) c.read_uint.ensures c.in-Number.is in
     let n = c.in-Number.variant in
     rw (v.0, v.1, ne_eqb n 0 (λ e. omega arith), ne_eqb n 1 (λ e. omega arith), ne_eqb n 2 (λ e. omega arith), ne_eqb n 3 (λ e. omega arith))
     c.refuse-in_default-variant.ensures

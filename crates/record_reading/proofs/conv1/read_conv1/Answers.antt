@@ -1,27 +1,13 @@
 -- each field is missing, or its number is handed on; an order of five bits more 1 is 1 to 32, so that the test 1 never refuses
-use Rattle.std.proofs.Common.{◌≡◌, ◌<◌, ◌+◌, ◌*◌, List, ℕ, ℤ, length, true, sym, ap, ◌∙◌, arith, w64, to_z, of_z, FitsSigned}
+use Rattle.std.proofs.Common.{◌+◌, ◌*◌, ℤ, length, sym, ap, ◌∙◌, arith, w64, to_z, of_z, FitsSigned}
 use Rattle.std.proofs.lemmas.Bool.{le-leb, leb-true}
 use Rattle.std.proofs.Math.Facts.{to_z-of_z}
-use Rattle.bits.specs.Fields.{field_at, found, holds}
-use Rattle.bits.specs.declared.Found.{Found}
-use Rattle.bits.specs.declared.Found.TheVariants.{Number}
-use Rattle.bits.proofs.Fields.{absent, present, field_lt}
+use Rattle.bits.proofs.Fields.{absent}
 use Rattle.record.specs.Reading.{reading, read_conv1}
 use Rattle.record.specs.Signed.{lowered}
 use Rattle.record.proofs.Signed.{lowered_fits}
+use Rattle.record_reading.proofs.Fields.{told, told_lt}
 use Rattle.record_reading.proofs.conv1.read_conv1.Goals as goal
-
-shift : (bytes : List ℕ) (r : Found) (v : ℕ) → r ≡ found bytes 4 5 → r ≡ Number v → (holds bytes 4 5 ≡ true) × (field_at bytes 4 5 ≡ v)
-shift bytes r v e is = present bytes 4 5 v (omega arith) (sym e ∙ is)
-
-bias : (bytes : List ℕ) (r : Found) (v : ℕ) → r ≡ found bytes 9 64 → r ≡ Number v → (holds bytes 9 64 ≡ true) × (field_at bytes 9 64 ≡ v)
-bias bytes r v e is = present bytes 9 64 v (omega arith) (sym e ∙ is)
-
-count : (bytes : List ℕ) (r : Found) (v : ℕ) → r ≡ found bytes 73 5 → r ≡ Number v → (holds bytes 73 5 ≡ true) × (field_at bytes 73 5 ≡ v)
-count bytes r v e is = present bytes 73 5 v (omega arith) (sym e ∙ is)
-
-count_lt : (bytes : List ℕ) (r : Found) (v : ℕ) → r ≡ found bytes 73 5 → r ≡ Number v → v < 32
-count_lt bytes r v e is = omega (arith, (count bytes r v e is).1, field_lt bytes 73 5)
 
 pub returns-in_default : goal.returns-in_default
 unfolding read_conv1 reading
@@ -32,7 +18,7 @@ pub returns-in_default-read_uint : goal.returns-in_default-read_uint
 unfolding read_conv1 reading
 returns-in_default-read_uint c =
     let bytes = c.args.bytes.now in
-    let q = shift bytes _ _ c.read_uint.ensures c.in-Number.is in
+    let q = told bytes 4 5 (omega arith) c.read_uint.ensures c.in-Number.is in
     let short = absent bytes 9 64 (omega arith) (sym c.read_uint-2.ensures ∙ c.in_default-read_uint.is) in
     rw (q.0, q.1, short) c.refuse-in_default-read_uint.ensures
 
@@ -40,36 +26,36 @@ pub returns-in_default-read_uint-2 : goal.returns-in_default-read_uint-2
 unfolding read_conv1 reading
 returns-in_default-read_uint-2 c =
     let bytes = c.args.bytes.now in
-    let q = shift bytes _ _ c.read_uint.ensures c.in-Number.is in
-    let b = bias bytes _ _ c.read_uint-2.ensures c.in-Number-read_uint.is in
+    let q = told bytes 4 5 (omega arith) c.read_uint.ensures c.in-Number.is in
+    let b = told bytes 9 64 (omega arith) c.read_uint-2.ensures c.in-Number-read_uint.is in
     let short = absent bytes 73 5 (omega arith) (sym c.read_uint-3.ensures ∙ c.in_default-read_uint-2.is) in
     rw (q.0, q.1, b.0, b.1, short) c.refuse-in_default-read_uint-2.ensures
 
 pub overflow_add-order : goal.overflow_add-order
 overflow_add-order c =
-    record { fits = omega (arith, count_lt c.args.bytes.now _ _ c.read_uint-3.ensures c.in-Number-read_uint-2.is) }
+    record { fits = omega (arith, told_lt c.args.bytes.now 73 5 (omega arith) c.read_uint-3.ensures c.in-Number-read_uint-2.is) }
 
 pub overflow_cast-encoding : goal.overflow_cast-encoding
 overflow_cast-encoding c =
     let bytes = c.args.bytes.now in
-    record { fits = omega (arith, (shift bytes _ _ c.read_uint.ensures c.in-Number.is).1, field_lt bytes 4 5) }
+    record { fits = omega (arith, told_lt bytes 4 5 (omega arith) c.read_uint.ensures c.in-Number.is) }
 
 pub read_weights-requires : goal.read_weights-requires
 read_weights-requires c =
     let bytes = c.args.bytes.now in
-    let n = count bytes _ _ c.read_uint-3.ensures c.in-Number-read_uint-2.is in
-    omega (arith, count_lt bytes _ _ c.read_uint-3.ensures c.in-Number-read_uint-2.is, leb-true 78 (8 * length bytes) n.0)
+    let n = told bytes 73 5 (omega arith) c.read_uint-3.ensures c.in-Number-read_uint-2.is in
+    omega (arith, told_lt bytes 73 5 (omega arith) c.read_uint-3.ensures c.in-Number-read_uint-2.is, leb-true 78 (8 * length bytes) n.0)
 
 pub returns : goal.returns
 unfolding read_conv1 reading
 returns c =
     let bytes = c.args.bytes.now in
-    let q = shift bytes _ _ c.read_uint.ensures c.in-Number.is in
-    let b = bias bytes _ _ c.read_uint-2.ensures c.in-Number-read_uint.is in
-    let n = count bytes _ _ c.read_uint-3.ensures c.in-Number-read_uint-2.is in
+    let q = told bytes 4 5 (omega arith) c.read_uint.ensures c.in-Number.is in
+    let b = told bytes 9 64 (omega arith) c.read_uint-2.ensures c.in-Number-read_uint.is in
+    let n = told bytes 73 5 (omega arith) c.read_uint-3.ensures c.in-Number-read_uint-2.is in
     let order = c.in-Number-read_uint-2.n_weights + 1 in
     let v = c.in-Number-read_uint.bias in
-    let fits : FitsSigned w64 (lowered 63 v) = record { sfits = lowered_fits 63 v (omega (arith, b.1, field_lt bytes 9 64)) } in
-    let told = ap (λ (z : ℤ). to_z w64 (of_z w64 z)) c.bias_from_latent_ordered.ensures ∙ to_z-of_z fits in
-    rw (q.0, q.1, b.0, b.1, n.0, n.1, le-leb 1 order (omega arith), le-leb order 32 (omega (arith, count_lt bytes _ _ c.read_uint-3.ensures c.in-Number-read_uint-2.is)), ← told)
+    let fits : FitsSigned w64 (lowered 63 v) = record { sfits = lowered_fits 63 v (told_lt bytes 9 64 (omega arith) c.read_uint-2.ensures c.in-Number-read_uint.is) } in
+    let raised = ap (λ (z : ℤ). to_z w64 (of_z w64 z)) c.bias_from_latent_ordered.ensures ∙ to_z-of_z fits in
+    rw (q.0, q.1, b.0, b.1, n.0, n.1, le-leb 1 order (omega arith), le-leb order 32 (omega (arith, told_lt bytes 73 5 (omega arith) c.read_uint-3.ensures c.in-Number-read_uint-2.is)), ← raised)
     c.read_weights.ensures

@@ -1,11 +1,9 @@
 -- a turn's weight is missing, or stands behind those before it
-use Rattle.std.proofs.Common.{◌≡◌, ◌<◌, ◌+◌, ◌*◌, List, ℕ, ℤ, length, true, sym, ap, ◌∙◌, arith, w32, to_z, of_z, FitsSigned, set}
+use Rattle.std.proofs.Common.{◌≡◌, ◌+◌, ◌*◌, List, ℕ, ℤ, length, sym, ap, ◌∙◌, arith, w32, to_z, of_z, FitsSigned, set}
 use Rattle.std.proofs.lemmas.Bool.{le-leb, lt-leb, leb-true, leb-false}
 use Rattle.std.proofs.Math.Facts.{to_z-of_z}
-use Rattle.bits.specs.Fields.{field_at, found, holds}
-use Rattle.bits.specs.declared.Found.{Found}
-use Rattle.bits.specs.declared.Found.TheVariants.{Number}
-use Rattle.bits.proofs.Fields.{absent, present, field_lt}
+use Rattle.bits.specs.Fields.{field_at}
+use Rattle.bits.proofs.Fields.{absent}
 use Rattle.record.specs.Format.{weight_fields, total_width, weights_at}
 use Rattle.record.specs.Reading.{in_array, given, weights_in, read_weights}
 use Rattle.record.specs.Signed.{lowered}
@@ -13,17 +11,12 @@ use Rattle.record.specs.Widths.{weight_bits}
 use Rattle.record.proofs.Put.{weights_total}
 use Rattle.record.proofs.Signed.{lowered_fits}
 use Rattle.record.proofs.Weights.{array_more}
+use Rattle.record_reading.proofs.Fields.{told, told_lt}
 use Rattle.record_reading.proofs.conv1.read_weights.Goals as goal
 
 -- of weight i
 abbrev place : ℕ → ℕ
 place i = weights_at + weight_bits * i
-
-latent : (bytes : List ℕ) (r : Found) (i v : ℕ) → r ≡ found bytes (place i) 32 → r ≡ Number v → (holds bytes (place i) 32 ≡ true) × (field_at bytes (place i) 32 ≡ v)
-latent bytes r i v e is = present bytes (place i) 32 v (omega arith) (sym e ∙ is)
-
-latent_lt : (bytes : List ℕ) (r : Found) (i v : ℕ) → r ≡ found bytes (place i) 32 → r ≡ Number v → v < 4294967296
-latent_lt bytes r i v e is = omega (arith, (latent bytes r i v e is).1, field_lt bytes (place i) 32)
 
 pub returns-in_default : goal.returns-in_default
 unfolding read_weights
@@ -36,19 +29,19 @@ returns-in_default c =
     c.refuse.ensures
 
 pub weight_from_latent_ordered-requires : goal.weight_from_latent_ordered-requires
-weight_from_latent_ordered-requires c = latent_lt c.args.bytes.now _ c.loop-i.i _ c.read_uint.ensures c.in-Number.is
+weight_from_latent_ordered-requires c = told_lt c.args.bytes.now (place c.loop-i.i) 32 (omega arith) c.read_uint.ensures c.in-Number.is
 
 pub loop-i-preserved : goal.loop-i-preserved
 loop-i-preserved c =
     let l = c.loop-i in
     let bytes = c.args.bytes.now in
     let v = c.in-Number.latent in
-    let stands = latent bytes _ l.i v c.read_uint.ensures c.in-Number.is in
-    let fits : FitsSigned w32 (lowered 31 v) = record { sfits = lowered_fits 31 v (latent_lt bytes _ l.i v c.read_uint.ensures c.in-Number.is) } in
-    let told = ap (λ (z : ℤ). to_z w32 (of_z w32 z)) c.weight_from_latent_ordered.ensures ∙ to_z-of_z fits in (
+    let stands = told bytes (place l.i) 32 (omega arith) c.read_uint.ensures c.in-Number.is in
+    let fits : FitsSigned w32 (lowered 31 v) = record { sfits = lowered_fits 31 v (told_lt bytes (place l.i) 32 (omega arith) c.read_uint.ensures c.in-Number.is) } in
+    let raised = ap (λ (z : ℤ). to_z w32 (of_z w32 z)) c.weight_from_latent_ordered.ensures ∙ to_z-of_z fits in (
       omega arith,
       omega (arith, leb-true (place l.i + 32) (8 * length bytes) stands.0),
-      ap (λ (z : ℤ). set l.weights l.i z) (told ∙ ap (lowered 31) (sym stands.1))
+      ap (λ (z : ℤ). set l.weights l.i z) (raised ∙ ap (lowered 31) (sym stands.1))
           ∙ ap (λ (ws : List ℤ). set ws l.i (lowered 31 (field_at bytes (place l.i) 32))) l.invariant.2
           ∙ array_more bytes weights_at l.i (omega arith),
     )
