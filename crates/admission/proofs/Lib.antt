@@ -1,2 +1,1 @@
-pub mod Magnitudes
 pub mod Budget

@@ -7,31 +7,28 @@ ghost use Rattle.rule.specs.Prediction.{sum_abs, admitted};
 use kinds::Width;
 
 // Whether `most` times each absolute weight can be paid out of the budget.
+#[tactic(auto, using(crate::proofs::Budget::turn))]
 fn is_affordable(weights: &[i32], most: u64, budget: u64) -> bool
     requires { most < 2 ^ 32 }
     ensures { result ≡ leb (most * sum_abs weights.now) budget }
 {
     let mut left = budget;
-    let mut i = 0;
-    while i < weights.len() {
-        let cost = most * crate::limits::magnitude(weights[i] as i64);
+    for &weight in weights {
+        let cost = most * u64::from(weight.unsigned_abs());
         if left < cost {
             return false;
         }
         left -= cost;
-        i += 1;
     }
     true
 }
 
 // The accumulator rule: |bias| + M * Σ |weight| is at most 2^(A-1)-1.
+#[tactic(auto, using(crate::proofs::Budget::bias_spent, crate::proofs::Budget::bias_over))]
 pub fn is_admitted(width: Width, bias: i64, weights: &[i32]) -> bool
     ensures { result ≡ admitted (bits_of width) bias weights.now }
 {
     let most = crate::limits::accumulator_limit(width);
-    let spent = crate::limits::magnitude(bias);
-    if most < spent {
-        return false;
-    }
-    is_affordable(weights, crate::limits::greatest_sample(width), most - spent)
+    let spent = bias.unsigned_abs();
+    spent <= most && is_affordable(weights, crate::limits::greatest_sample(width), most - spent)
 }

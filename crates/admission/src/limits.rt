@@ -1,5 +1,5 @@
 // The numbers of a width, and the tests of a configuration that look at one number alone.
-ghost use Rattle.std.specs.Prelude.{◌≡◌, nat_abs};
+ghost use Rattle.std.specs.Prelude.{◌≡◌};
 ghost use Rattle.kinds.specs.Widths.{bits_of};
 ghost use Rattle.rule.specs.Numbers.{greatest, accumulator, limit};
 ghost use Rattle.rule.specs.Refusals.{order_fits, shift_fits};
@@ -11,9 +11,9 @@ pub fn greatest_sample(width: Width) -> u64
     ensures { result ≡ greatest (bits_of width) }
 {
     match width {
-        Width::Eight => 255,
-        Width::Sixteen => 65535,
-        Width::ThirtyTwo => 4294967295,
+        Width::Eight => u64::from(u8::MAX),
+        Width::Sixteen => u64::from(u16::MAX),
+        Width::ThirtyTwo => u64::from(u32::MAX),
     }
 }
 
@@ -33,25 +33,17 @@ pub fn accumulator_limit(width: Width) -> u64
     ensures { result ≡ limit (bits_of width) }
 {
     match width {
-        Width::Eight => 32767,
-        Width::Sixteen => 2147483647,
-        Width::ThirtyTwo => 9223372036854775807,
+        Width::Eight => i16::MAX as u64,
+        Width::Sixteen => i32::MAX as u64,
+        Width::ThirtyTwo => i64::MAX as u64,
     }
-}
-
-// The absolute value. Negating the least number would overflow, so a negative one is flipped, which gives one less.
-pub fn magnitude(b: i64) -> u64
-    ensures { result ≡ nat_abs b }
-{
-    if b < 0 { ((!b) as u64) + 1 } else { b as u64 }
 }
 
 // Test 1.
 pub fn is_order(order: Order) -> bool
     ensures { result ≡ order_fits order.0 }
 {
-    let k = order.0;
-    if 1 <= k { k <= 32 } else { false }
+    (1..=32).contains(&order.0)
 }
 
 // Test 2.

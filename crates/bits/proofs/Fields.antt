@@ -13,7 +13,7 @@ use lib.ListN.{length, get_or, length-set}
 use lib.Pow.{mod-pow-add}
 use lib.Seq.{get_or-set_other}
 use Rattle.bits.specs.Fields.{bit_of, replaced, bit_at, with_bit, field_at, with_field, holds, found}
-use Rattle.bits.specs.declared.Found.TheVariants.{Missing, Number}
+use Rattle.std.specs.Prelude.{None, Some}
 use Rattle.bits.proofs.Bits.{bit_replaced, bit_not_replaced, bit_same, bit_other}
 
 pub field_none : (bytes : List ℕ) (at : ℕ) → field_at bytes at 0 ≡ 0
@@ -122,25 +122,25 @@ field_outside bytes at n v from m (inl h) = field_agree (with_field bytes at n v
 field_outside bytes at n v from m (inr h) = field_agree (with_field bytes at n v) bytes from m (λ i k. bit_outside bytes at n v (from + i) (inr (omega arith)))
 
 -- what reading gives, by where the field lies
-pub found_number : (bytes : List ℕ) (at n : ℕ) → n ≤ 64 → at + n ≤ 8 * length bytes → found bytes at n ≡ Number (field_at bytes at n)
+pub found_number : (bytes : List ℕ) (at n : ℕ) → n ≤ 64 → at + n ≤ 8 * length bytes → found bytes at n ≡ Some (field_at bytes at n)
 unfolding found
 found_number bytes at n h room = rw (le-leb n 64 h, le-leb (at + n) (8 * length bytes) room)
 
-pub found_missing : (bytes : List ℕ) (at n : ℕ) → n ≤ 64 → 8 * length bytes < at + n → found bytes at n ≡ Missing
+pub found_missing : (bytes : List ℕ) (at n : ℕ) → n ≤ 64 → 8 * length bytes < at + n → found bytes at n ≡ None
 unfolding found
 found_missing bytes at n h short = rw (le-leb n 64 h, lt-leb (at + n) (8 * length bytes) short)
 
 -- and back: where the field lies, from what reading gave
-pub absent : (bytes : List ℕ) (at n : ℕ) → n ≤ 64 → found bytes at n ≡ Missing → holds bytes at n ≡ false
+pub absent : (bytes : List ℕ) (at n : ℕ) → n ≤ 64 → found bytes at n ≡ None → holds bytes at n ≡ false
 absent bytes at n h e = go (holds bytes at n) refl
   where
     go : (t : Bool) → holds bytes at n ≡ t → t ≡ false
-    go true p = let o : Number (field_at bytes at n) ≡ Missing = sym (found_number bytes at n h (leb-true (at + n) (8 * length bytes) p)) ∙ e in cc
+    go true p = let o : Some (field_at bytes at n) ≡ None = sym (found_number bytes at n h (leb-true (at + n) (8 * length bytes) p)) ∙ e in cc
     go false p = refl
 
-pub present : (bytes : List ℕ) (at n v : ℕ) → n ≤ 64 → found bytes at n ≡ Number v → (holds bytes at n ≡ true) × (field_at bytes at n ≡ v)
+pub present : (bytes : List ℕ) (at n v : ℕ) → n ≤ 64 → found bytes at n ≡ Some v → (holds bytes at n ≡ true) × (field_at bytes at n ≡ v)
 present bytes at n v h e = go (holds bytes at n) refl
   where
     go : (t : Bool) → holds bytes at n ≡ t → (t ≡ true) × (field_at bytes at n ≡ v)
-    go true p = let o : Number (field_at bytes at n) ≡ Number v = sym (found_number bytes at n h (leb-true (at + n) (8 * length bytes) p)) ∙ e in (refl, cc)
-    go false p = let o : Missing ≡ Number v = sym (found_missing bytes at n h (leb-false (at + n) (8 * length bytes) p)) ∙ e in (cc, cc)
+    go true p = let o : Some (field_at bytes at n) ≡ Some v = sym (found_number bytes at n h (leb-true (at + n) (8 * length bytes) p)) ∙ e in (refl, cc)
+    go false p = let o : None ≡ Some v = sym (found_missing bytes at n h (leb-false (at + n) (8 * length bytes) p)) ∙ e in (cc, cc)

@@ -1,7 +1,5 @@
 -- Bit fields of a byte list. Bit 0 is the least significant bit of the first byte, bit 8 that of the second.
-use Rattle.std.specs.Prelude.{Bool, cond, ◌&&◌, List, ℕ, zero, suc, ◌+◌, ◌*◌, ◌/◌, ◌%◌, ◌^◌, leb, length, get_or, set}
-use Rattle.bits.specs.declared.Found.{Found}
-use Rattle.bits.specs.declared.Found.TheVariants.{Missing, Number}
+use Rattle.std.specs.Prelude.{Bool, cond, ◌&&◌, List, ℕ, zero, suc, ◌+◌, ◌*◌, ◌/◌, ◌%◌, ◌^◌, leb, length, get_or, set, Option, None, Some}
 
 -- bit p of a number
 abbrev pub bit_of : ℕ → ℕ → ℕ
@@ -34,5 +32,5 @@ abbrev pub holds : List ℕ → ℕ → ℕ → Bool
 holds bytes at width = leb (at + width) (8 * length bytes)
 
 -- what reading a field gives: nothing where the bytes end before or inside it, or where it is wider than 64 bits
-unfoldable pub found : List ℕ → ℕ → ℕ → Found
-found bytes at width = cond (leb width 64 && holds bytes at width) (Number (field_at bytes at width)) Missing
+unfoldable pub found : List ℕ → ℕ → ℕ → Option ℕ
+found bytes at width = cond (leb width 64 && holds bytes at width) (Some (field_at bytes at width)) None

@@ -2,12 +2,5 @@
 // A field is read in `reading` and replaced in `writing`; proofs/ has the laws of both, such as that what was written is read.
 #![tactic(auto)]
 
-// What reading a field gives.
-#[derive(Clone, Copy)]
-pub enum Found {
-    Missing,
-    Number(u64),
-}
-
 pub mod reading;
 pub mod writing;

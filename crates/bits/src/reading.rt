@@ -2,8 +2,6 @@
 ghost use Rattle.std.specs.Prelude.{◌≡◌, ◌+◌, ◌*◌, ◌≤◌, ◌<◌, length};
 ghost use Rattle.bits.specs.Fields.{bit_at, field_at, found};
 
-use crate::Found;
-
 // Bit i after the bit place `at`. Whole bytes and odd bits are added apart, so that no place is too large for the sums.
 fn bit(bytes: &[u8], at: usize, i: usize) -> u64
     requires { at + i < 8 * length bytes.now }
@@ -20,28 +18,23 @@ fn number(bytes: &[u8], at: usize, width: usize) -> u64
     ensures { result ≡ field_at bytes.now at width }
 {
     let mut sum: u64 = 0;
-    let mut i = 0;
-    while i < width {
+    for i in 0..width {
         sum += bit(bytes, at, i) << i;
-        i += 1;
     }
     sum
 }
 
 // A field of at most 64 bits, if the bytes hold all of it.
-pub fn read_uint(bytes: &[u8], at: usize, width: usize) -> Found
+#[tactic(auto, unfolding(crate::specs::Fields::found))]
+pub fn read_uint(bytes: &[u8], at: usize, width: usize) -> Option<u64>
     ensures { result ≡ found bytes.now at width }
 {
     if 64 < width {
-        return Found::Missing;
+        return None;
     }
-    let first = at / 8;
-    if bytes.len() < first {
-        return Found::Missing;
+    let room = bytes.len().checked_sub(at / 8)?;
+    if room < (at % 8 + width).div_ceil(8) {
+        return None;
     }
-    let touched = (at % 8 + width + 7) / 8;
-    if bytes.len() - first < touched {
-        return Found::Missing;
-    }
-    Found::Number(number(bytes, at, width))
+    Some(number(bytes, at, width))
 }

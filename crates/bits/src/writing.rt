@@ -38,10 +38,8 @@ pub fn write_uint(bytes: &mut [u8], at: usize, width: usize, value: u64)
     ensures { bytes.new ≡ with_field bytes.old at width value }
 {
     let mut left = value;
-    let mut i = 0;
-    while i < width {
+    for i in 0..width {
         put_bit(bytes, at, i, left % 2);
         left /= 2;
-        i += 1;
     }
 }

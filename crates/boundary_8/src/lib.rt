@@ -1,33 +1,33 @@
 // What other languages call for samples of this width. Every function answers with a refusal number; a refusal changes no lent slice.
-// include/claspotter.h describes it.
+// include/claspotter.h describes it. C links a function by its name, so each width has its own; the bodies are the generic calls.
 #![tactic(auto)]
 
 ghost use Rattle.std.specs.Prelude.{◌≡◌, not};
-ghost use Rattle.kinds.specs.declared.Answer.TheVariants.{Done, Overflows};
-ghost use Rattle.kinds.specs.Answers.{number_of, refuse};
+ghost use Rattle.kinds.specs.declared.Refusal.TheVariants.{Overflows};
+ghost use Rattle.kinds.specs.Answers.{Done, answer_number, refuse};
 ghost use Rattle.rule.specs.Prediction.{admitted};
 ghost use Rattle.calls.specs.declared.Way.TheVariants.{General, OrderSix};
 ghost use Rattle.calls.specs.Encode as encoding;
 ghost use Rattle.calls.specs.Decode as decoding;
 ghost use Rattle.byte_coding.specs.Bytes.{weights_in, ragged};
 ghost use Rattle.byte_coding.specs.Calls.{encode_bytes, decode_bytes};
-ghost use Rattle.boundary.specs.Calls.{given};
-ghost use Rattle.quantising.specs.Lent.{quantised_from, filled_from};
-ghost use Rattle.sample_8.specs.Width.{W};
+ghost use Rattle.boundary.specs.Calls.{W_8, given};
+ghost use Rattle.quantising.specs.Lent.{quantised_from, filled_from, shift_of, bias_of};
 
 use calls::Way;
-use kinds::{Answer, Order, Shift};
-use sample_8::{Sample, WIDTH};
+use kinds::{Configuration, Order, Refusal, Shift};
+use sample::Sample;
 
 // The accumulator rule alone: 0 where it holds, 3 where it fails.
 #[unsafe(no_mangle)]
 pub extern "C" fn claspotter_admits_8(bias: i64, weights: &[i32]) -> u32
-    ensures { result ≡ number_of (refuse (not (admitted W bias weights.now)) Overflows Done) }
+    ensures { result ≡ answer_number (refuse (not (admitted W_8 bias weights.now)) Overflows Done) }
 {
-    if admission::accumulator::is_admitted(WIDTH, bias, weights) {
-        return kinds::number(Answer::Done);
+    if admission::accumulator::is_admitted(u8::WIDTH, bias, weights) {
+        0
+    } else {
+        Refusal::Overflows.number()
     }
-    kinds::number(Answer::Overflows)
 }
 
 // Encodes the samples in place; the first `order` of them go into the state.
@@ -37,14 +37,18 @@ pub extern "C" fn claspotter_encode_u8(
     shift: u32,
     bias: i64,
     weights: &[i32],
-    samples: &mut [Sample],
-    state: &mut [Sample],
+    samples: &mut [u8],
+    state: &mut [u8],
 ) -> u32
-    ensures { encoding.left_numbered result samples.new state.new ≡ encoding.numbered (encoding.encode W (given order shift bias weights.now) samples.old state.old) }
+    ensures { encoding.left_numbered result samples.new state.new ≡ encoding.numbered (encoding.encode W_8 (given order shift bias weights.now) samples.old state.old) }
 {
-    let said = encoding_8::encode_into(Order(order), Shift(shift), bias, weights, samples, state);
-    let answer = said.answer;
-    kinds::number(answer)
+    let config = Configuration {
+        order: Order(order),
+        shift: Shift(shift),
+        bias,
+        weights,
+    };
+    kinds::number(encoding::encode_into(config, samples, state))
 }
 
 // Decodes a piece in place from the state, which becomes the one for the piece that follows.
@@ -54,14 +58,18 @@ pub extern "C" fn claspotter_decode_u8(
     shift: u32,
     bias: i64,
     weights: &[i32],
-    state: &mut [Sample],
-    piece: &mut [Sample],
+    state: &mut [u8],
+    piece: &mut [u8],
 ) -> u32
-    ensures { decoding.left_numbered result state.new piece.new ≡ decoding.numbered (decoding.decode W (given order shift bias weights.now) state.old piece.old) }
+    ensures { decoding.left_numbered result state.new piece.new ≡ decoding.numbered (decoding.decode W_8 (given order shift bias weights.now) state.old piece.old) }
 {
-    let said = decoding_8::decode_into(Order(order), Shift(shift), bias, weights, state, piece);
-    let answer = said.answer;
-    kinds::number(answer)
+    let config = Configuration {
+        order: Order(order),
+        shift: Shift(shift),
+        bias,
+        weights,
+    };
+    kinds::number(decoding::decode_into(config, state, piece))
 }
 
 // The same by the general way, at order 6 too.
@@ -71,22 +79,18 @@ pub extern "C" fn claspotter_decode_general_u8(
     shift: u32,
     bias: i64,
     weights: &[i32],
-    state: &mut [Sample],
-    piece: &mut [Sample],
+    state: &mut [u8],
+    piece: &mut [u8],
 ) -> u32
-    ensures { decoding.left_numbered result state.new piece.new ≡ decoding.numbered (decoding.decode_by General W (given order shift bias weights.now) state.old piece.old) }
+    ensures { decoding.left_numbered result state.new piece.new ≡ decoding.numbered (decoding.decode_by General W_8 (given order shift bias weights.now) state.old piece.old) }
 {
-    let said = decoding_8::decode_by(
-        Way::General,
-        Order(order),
-        Shift(shift),
+    let config = Configuration {
+        order: Order(order),
+        shift: Shift(shift),
         bias,
         weights,
-        state,
-        piece,
-    );
-    let answer = said.answer;
-    kinds::number(answer)
+    };
+    kinds::number(decoding::decode_by(Way::General, config, state, piece))
 }
 
 // The same by the way of order 6, which refuses every other order.
@@ -96,22 +100,18 @@ pub extern "C" fn claspotter_decode_order_6_u8(
     shift: u32,
     bias: i64,
     weights: &[i32],
-    state: &mut [Sample],
-    piece: &mut [Sample],
+    state: &mut [u8],
+    piece: &mut [u8],
 ) -> u32
-    ensures { decoding.left_numbered result state.new piece.new ≡ decoding.numbered (decoding.decode_by OrderSix W (given order shift bias weights.now) state.old piece.old) }
+    ensures { decoding.left_numbered result state.new piece.new ≡ decoding.numbered (decoding.decode_by OrderSix W_8 (given order shift bias weights.now) state.old piece.old) }
 {
-    let said = decoding_8::decode_by(
-        Way::OrderSix,
-        Order(order),
-        Shift(shift),
+    let config = Configuration {
+        order: Order(order),
+        shift: Shift(shift),
         bias,
         weights,
-        state,
-        piece,
-    );
-    let answer = said.answer;
-    kinds::number(answer)
+    };
+    kinds::number(decoding::decode_by(Way::OrderSix, config, state, piece))
 }
 
 // `claspotter_encode_u8` over bytes: little-endian samples, and weights of four bytes.
@@ -124,18 +124,15 @@ pub extern "C" fn claspotter_encode_bytes_8(
     samples: &mut [u8],
     state: &mut [u8],
 ) -> u32
-    ensures { encoding.left_numbered result samples.new state.new ≡ encoding.numbered (encode_bytes W (given order shift bias (weights_in weights.now)) (ragged W weights.now state.old samples.old) samples.old state.old) }
+    ensures { encoding.left_numbered result samples.new state.new ≡ encoding.numbered (encode_bytes W_8 (given order shift bias (weights_in weights.now)) (ragged W_8 weights.now state.old samples.old) samples.old state.old) }
 {
-    let said = byte_coding_8::encoder::encode(
-        Order(order),
-        Shift(shift),
+    let config = Configuration {
+        order: Order(order),
+        shift: Shift(shift),
         bias,
         weights,
-        samples,
-        state,
-    );
-    let answer = said.answer;
-    kinds::number(answer)
+    };
+    kinds::number(byte_coding::encoder::encode::<u8>(config, samples, state))
 }
 
 // `claspotter_decode_u8` over bytes.
@@ -148,18 +145,15 @@ pub extern "C" fn claspotter_decode_bytes_8(
     state: &mut [u8],
     piece: &mut [u8],
 ) -> u32
-    ensures { decoding.left_numbered result state.new piece.new ≡ decoding.numbered (decode_bytes General W (given order shift bias (weights_in weights.now)) (ragged W weights.now state.old piece.old) state.old piece.old) }
+    ensures { decoding.left_numbered result state.new piece.new ≡ decoding.numbered (decode_bytes General W_8 (given order shift bias (weights_in weights.now)) (ragged W_8 weights.now state.old piece.old) state.old piece.old) }
 {
-    let said = byte_coding_8::decoder::decode(
-        Order(order),
-        Shift(shift),
+    let config = Configuration {
+        order: Order(order),
+        shift: Shift(shift),
         bias,
         weights,
-        state,
-        piece,
-    );
-    let answer = said.answer;
-    kinds::number(answer)
+    };
+    kinds::number(byte_coding::decoder::decode::<u8>(config, state, piece))
 }
 
 // `claspotter_decode_general_u8` over bytes.
@@ -172,19 +166,15 @@ pub extern "C" fn claspotter_decode_general_bytes_8(
     state: &mut [u8],
     piece: &mut [u8],
 ) -> u32
-    ensures { decoding.left_numbered result state.new piece.new ≡ decoding.numbered (decode_bytes General W (given order shift bias (weights_in weights.now)) (ragged W weights.now state.old piece.old) state.old piece.old) }
+    ensures { decoding.left_numbered result state.new piece.new ≡ decoding.numbered (decode_bytes General W_8 (given order shift bias (weights_in weights.now)) (ragged W_8 weights.now state.old piece.old) state.old piece.old) }
 {
-    let said = byte_coding_8::decoder::decode_by(
-        Way::General,
-        Order(order),
-        Shift(shift),
+    let config = Configuration {
+        order: Order(order),
+        shift: Shift(shift),
         bias,
         weights,
-        state,
-        piece,
-    );
-    let answer = said.answer;
-    kinds::number(answer)
+    };
+    kinds::number(byte_coding::decoder::decode_by::<u8>(Way::General, config, state, piece))
 }
 
 // `claspotter_decode_order_6_u8` over bytes.
@@ -197,19 +187,15 @@ pub extern "C" fn claspotter_decode_order_6_bytes_8(
     state: &mut [u8],
     piece: &mut [u8],
 ) -> u32
-    ensures { decoding.left_numbered result state.new piece.new ≡ decoding.numbered (decode_bytes OrderSix W (given order shift bias (weights_in weights.now)) (ragged W weights.now state.old piece.old) state.old piece.old) }
+    ensures { decoding.left_numbered result state.new piece.new ≡ decoding.numbered (decode_bytes OrderSix W_8 (given order shift bias (weights_in weights.now)) (ragged W_8 weights.now state.old piece.old) state.old piece.old) }
 {
-    let said = byte_coding_8::decoder::decode_by(
-        Way::OrderSix,
-        Order(order),
-        Shift(shift),
+    let config = Configuration {
+        order: Order(order),
+        shift: Shift(shift),
         bias,
         weights,
-        state,
-        piece,
-    );
-    let answer = said.answer;
-    kinds::number(answer)
+    };
+    kinds::number(byte_coding::decoder::decode_by::<u8>(Way::OrderSix, config, state, piece))
 }
 
 // Float weights to a configuration: its weights fill the lent slice, its shift and bias go to the lent numbers. Beside a refusal both
@@ -219,20 +205,18 @@ pub extern "C" fn claspotter_quantise_8(
     order: usize,
     fitted: &[f64],
     centred_bias: f64,
-    centre: Sample,
+    centre: u8,
     weights: &mut [i32],
     shift: &mut u32,
     bias: &mut i64,
 ) -> u32
-    ensures value { result ≡ number_of (quantised_from W order fitted.now centre centred_bias weights.old).answer }
-    ensures weights_after { weights.new ≡ filled_from W order fitted.now centre centred_bias weights.old }
-    ensures shift_after { shift.new ≡ (quantised_from W order fitted.now centre centred_bias weights.old).shift.0 }
-    ensures bias_after { bias.new ≡ (quantised_from W order fitted.now centre centred_bias weights.old).bias }
+    ensures value { result ≡ answer_number (quantised_from W_8 order fitted.now centre centred_bias weights.old) }
+    ensures weights_after { weights.new ≡ filled_from W_8 order fitted.now centre centred_bias weights.old }
+    ensures shift_after { shift.new ≡ shift_of (quantised_from W_8 order fitted.now centre centred_bias weights.old) }
+    ensures bias_after { bias.new ≡ bias_of (quantised_from W_8 order fitted.now centre centred_bias weights.old) }
 {
-    let quantised = quantising_8::quantise(Order(order), fitted, centred_bias, centre, weights);
-    let answer = quantised.answer;
-    let whole_bias = quantised.bias;
-    *shift = quantised.shift.0;
-    *bias = whole_bias;
-    kinds::number(answer)
+    let said = quantising::centred::quantise(Order(order), fitted, centred_bias, centre, weights);
+    *shift = said.map_or(0, |quantised| quantised.shift.0);
+    *bias = said.map_or(0, |quantised| quantised.bias);
+    kinds::number(said)
 }

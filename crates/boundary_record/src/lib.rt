@@ -3,10 +3,11 @@
 #![tactic(auto)]
 
 ghost use Rattle.std.specs.Prelude.{◌≡◌, length};
-ghost use Rattle.kinds.specs.Answers.{number_of};
+ghost use Rattle.std.specs.Result.{result_unwrap_or};
+ghost use Rattle.kinds.specs.Answers.{answer_number};
 ghost use Rattle.record.specs.Writing.{flag_value};
 ghost use Rattle.record_numbers.specs.Numbers.{given};
-ghost use Rattle.record_numbers.specs.Calls.{read_numbers, weights_after, write_numbers, bytes_after_numbers};
+ghost use Rattle.record_numbers.specs.Calls.{given_out, read_numbers, weights_after, write_numbers, bytes_after_numbers};
 
 use kinds::{Order, Shift};
 use record_numbers::numbers::Numbers;
@@ -27,30 +28,29 @@ pub extern "C" fn claspotter_read_record(
     weights: &mut [i32],
     bits: &mut usize,
 ) -> u32
-    ensures value { result ≡ number_of (read_numbers bytes.now variants weights.old).answer }
-    ensures variant_after { variant.new ≡ (read_numbers bytes.now variants weights.old).numbers.variant }
-    ensures order_after { order.new ≡ (read_numbers bytes.now variants weights.old).numbers.order.0 }
-    ensures window_n_log_after { window_n_log.new ≡ (read_numbers bytes.now variants weights.old).numbers.window_n_log }
-    ensures state_n_log_after { state_n_log.new ≡ (read_numbers bytes.now variants weights.old).numbers.state_n_log }
-    ensures secondary_uses_delta_after { secondary_uses_delta.new ≡ flag_value (read_numbers bytes.now variants weights.old).numbers.secondary_uses_delta }
-    ensures quantization_after { quantization.new ≡ (read_numbers bytes.now variants weights.old).numbers.quantization.0 }
-    ensures bias_after { bias.new ≡ (read_numbers bytes.now variants weights.old).numbers.bias }
+    ensures value { result ≡ answer_number (read_numbers bytes.now variants weights.old) }
+    ensures variant_after { variant.new ≡ (given_out bytes.now variants weights.old).numbers.variant }
+    ensures order_after { order.new ≡ (given_out bytes.now variants weights.old).numbers.order.0 }
+    ensures window_n_log_after { window_n_log.new ≡ (given_out bytes.now variants weights.old).numbers.window_n_log }
+    ensures state_n_log_after { state_n_log.new ≡ (given_out bytes.now variants weights.old).numbers.state_n_log }
+    ensures secondary_uses_delta_after { secondary_uses_delta.new ≡ flag_value (given_out bytes.now variants weights.old).numbers.secondary_uses_delta }
+    ensures quantization_after { quantization.new ≡ (given_out bytes.now variants weights.old).numbers.quantization.0 }
+    ensures bias_after { bias.new ≡ (given_out bytes.now variants weights.old).numbers.bias }
     ensures weights_after { weights.new ≡ weights_after bytes.now variants weights.old }
-    ensures bits_after { bits.new ≡ (read_numbers bytes.now variants weights.old).bits }
+    ensures bits_after { bits.new ≡ (given_out bytes.now variants weights.old).bits }
 {
-    let readout = record_numbers::read(bytes, variants, weights);
+    let read = record_numbers::read(bytes, variants, weights);
+    let readout = read.unwrap_or_default();
     let numbers = readout.numbers;
     *variant = numbers.variant;
     *order = numbers.order.0;
     *window_n_log = numbers.window_n_log;
     *state_n_log = numbers.state_n_log;
-    *secondary_uses_delta = numbers.secondary_uses_delta as u32;
+    *secondary_uses_delta = u32::from(numbers.secondary_uses_delta);
     *quantization = numbers.quantization.0;
-    let read_bias = numbers.bias;
-    *bias = read_bias;
+    *bias = numbers.bias;
     *bits = readout.bits;
-    let answer = readout.answer;
-    kinds::number(answer)
+    kinds::number(read)
 }
 
 // Writes the record from the buffer's first bit on. What the variant does not have is not looked at; a Conv1 lends as many weights as
@@ -68,9 +68,9 @@ pub extern "C" fn claspotter_write_record(
     bytes: &mut [u8],
     bits: &mut usize,
 ) -> u32
-    ensures value { result ≡ number_of (write_numbers (given variant order window_n_log state_n_log secondary_uses_delta quantization bias) weights.now (length bytes.old)).answer }
+    ensures value { result ≡ answer_number (write_numbers (given variant order window_n_log state_n_log secondary_uses_delta quantization bias) weights.now (length bytes.old)) }
     ensures bytes_after { bytes.new ≡ bytes_after_numbers (given variant order window_n_log state_n_log secondary_uses_delta quantization bias) weights.now bytes.old }
-    ensures bits_after { bits.new ≡ (write_numbers (given variant order window_n_log state_n_log secondary_uses_delta quantization bias) weights.now (length bytes.old)).bits }
+    ensures bits_after { bits.new ≡ result_unwrap_or (write_numbers (given variant order window_n_log state_n_log secondary_uses_delta quantization bias) weights.now (length bytes.old)) 0 }
 {
     let numbers = Numbers::new(
         variant,
@@ -82,7 +82,6 @@ pub extern "C" fn claspotter_write_record(
         bias,
     );
     let written = record_numbers::write(numbers, weights, bytes);
-    *bits = written.bits;
-    let answer = written.answer;
-    kinds::number(answer)
+    *bits = written.unwrap_or(0);
+    kinds::number(written)
 }

@@ -2,16 +2,20 @@
 -- predictor p. Assumes nothing.
 use mathlib.Core.Path.{◌≡◌, refl, sym, ap, ◌∙◌}
 use mathlib.Core.List.{List, [], ◌++◌, append_assoc, append-nil}
-use Prim.Native.Nat.{ℕ, ◌+◌, ◌-◌, ◌*◌, ◌/◌, ◌≤◌, ◌<◌}
+use Prim.Native.Nat.{ℕ, ◌+◌, ◌-◌, ◌*◌, ◌/◌, ◌≤◌, ◌<◌, min}
 use native.Mathlib.Nat.{mul-zero, mul-add, mul-le-mul_left}
 use native.Mathlib.Omega.{arith}
 use lib.ListN.{length, take, drop, length-append, length-drop, drop_of_length-le}
 use lib.Seq.{take_at, drop_at, take_all, length-take-le, take-add, drop-drop}
 use borrow.Rule.Slice.PartMut.{put_mid}
+use Rattle.kinds.specs.declared.Width.{Width}
+use Rattle.kinds.specs.Widths.{bits_of}
 use Rattle.rule.specs.Coding.{decoded_piece, new_state}
+use Rattle.sample.proofs.Sizes.{some_bytes}
 use Rattle.entries.specs.Entries.{entries, bytes_of_all}
 use Rattle.entries.proofs.Lists as lists
 use Rattle.rule.proofs.Extending as extending
+use Rattle.byte_coding.specs.Lengths.{Entire}
 
 -- ---- one chunk: `piece` is loaded to the front of the room, decoded there, and stored again
 pub loaded_front : (n : ℕ) (piece room : List ℕ) {room₁ : List ℕ} → room₁ ≡ entries n piece ++ drop (length piece / n) room
@@ -19,25 +23,11 @@ pub loaded_front : (n : ℕ) (piece room : List ℕ) {room₁ : List ℕ} → ro
 loaded_front n piece room e =
     rw e (take_at (entries n piece) (drop (length piece / n) room) (length piece / n) (lists.length_entries n piece))
 
--- `out` stands at the front of the room, and is what is stored
-module _ (k : ℕ) (out : List ℕ) (long : length out ≡ k) (rest : List ℕ) where
-  front : take k (out ++ rest) ≡ out
-  front = take_at out rest k long
-
-  pub stored_within : k ≤ length (out ++ rest)
-  stored_within = rw length-append (omega (arith, long))
-
-  pub stored_long : k ≡ length (take k (out ++ rest))
-  stored_long = sym (ap length front ∙ long)
-
-  module _ (n : ℕ) (piece : List ℕ) (whole : length piece ≡ n * k) where
-    pub stored_fits : n * length (take k (out ++ rest)) ≤ length piece
-    stored_fits = rw (front, long) (omega (arith, whole))
-
-    pub stored : {new : List ℕ} → new ≡ bytes_of_all n (take k (out ++ rest)) ++ drop (n * length (take k (out ++ rest))) piece → new ≡ bytes_of_all n out
-    stored e =
-        let past : length piece ≤ n * length out = rw long (omega (arith, whole)) in
-        rw (e, front, drop_of_length-le piece past) (append-nil (bytes_of_all n out))
+-- what stood in the room is stored over all of the piece
+pub stored : (n : ℕ) (out piece : List ℕ) → length piece ≡ n * length out → {new : List ℕ} → new ≡ bytes_of_all n out ++ drop (n * length out) piece → new ≡ bytes_of_all n out
+stored n out piece whole e =
+    let past : length piece ≤ n * length out = omega (arith, whole) in
+    rw (e, drop_of_length-le piece past) (append-nil (bytes_of_all n out))
 
 -- ---- the loop, from state₀ and bytes₀: the outputs of the samples before `start`, and then the bytes that are left
 pub record Going (W n k : ℕ) (p : List ℕ → ℕ) (state₀ bytes₀ state bytes : List ℕ) (start : ℕ) : Type 0 where
@@ -52,6 +42,9 @@ pub record Begin (n k : ℕ) (state₀ bytes₀ : List ℕ) : Type 0 where
   pub some : 0 < n
   pub full₀ : length state₀ ≡ k
   pub whole : length bytes₀ ≡ n * (length bytes₀ / n)
+
+pub begin_of : (w : Width) {W k : ℕ} {state bytes : List ℕ} → bits_of w ≡ W → length state ≡ k → Entire W bytes → Begin (W / 8) k state bytes
+begin_of w is full lent = record { some = some_bytes w is; full₀ = full; whole = lent.entire }
 
 module _ (W : ℕ) {n k : ℕ} (p : List ℕ → ℕ) {state₀ bytes₀ : List ℕ} (begin : Begin n k state₀ bytes₀) where
   open begin use {some, full₀, whole}
@@ -83,19 +76,16 @@ module _ (W : ℕ) {n k : ℕ} (p : List ℕ → ℕ) {state₀ bytes₀ : List 
       to_end : start + (end - start) ≡ end
       to_end = omega arith
 
-      pub far : n * end ≤ length bytes₀
+      far : n * end ≤ length bytes₀
       far = rw whole (mul-le-mul_left n within)
 
-      pub wide : n * start + n * (end - start) ≡ n * end
+      wide : n * start + n * (end - start) ≡ n * end
       wide = sym (mul-add n start (end - start)) ∙ ap (λ (m : ℕ). n * m) to_end
 
       size : n * end - n * start ≡ n * (end - start)
       size = omega (arith, wide)
 
-      pub chunk_long : length (take (n * end - n * start) (drop (n * start) bytes)) ≡ n * (end - start)
-      chunk_long = rw size (length-take-le (n * (end - start)) (drop (n * start) bytes) (omega (arith, length-drop (n * start) bytes, g.same, far, wide)))
-
-      pub chunk_entries : entries n (take (n * end - n * start) (drop (n * start) bytes)) ≡ take (end - start) (drop start xs)
+      chunk_entries : entries n (take (n * end - n * start) (drop (n * start) bytes)) ≡ take (end - start) (drop start xs)
       chunk_entries = rw (size, ahead) (lists.entries_part n some bytes₀ start (end - start) (omega (arith, wide, far)))
 
       more : take end xs ≡ take start xs ++ take (end - start) (drop start xs)
@@ -127,7 +117,7 @@ module _ (W : ℕ) {n k : ℕ} (p : List ℕ → ℕ) {state₀ bytes₀ : List 
               )
               (sym (append_assoc (bytes_of_all n (decoded_piece W k p state₀ (take start xs))) _ (drop (n * end) bytes₀)))
 
-          pub turn : Going W n k p state₀ bytes₀ next (put_mid (n * start) (n * end - n * start) bytes out) end
+          turn : Going W n k p state₀ bytes₀ next (put_mid (n * start) (n * end - n * start) bytes out) end
           turn =
               record {
                 within = within;
@@ -146,3 +136,15 @@ module _ (W : ℕ) {n k : ℕ} (p : List ℕ → ℕ) {state₀ bytes₀ : List 
         let far : length bytes₀ ≤ n * start = rw e (omega (arith, whole)) in
         let none : drop (n * start) bytes₀ ≡ [] = drop_of_length-le bytes₀ far in
         (g.outputs ∙ rw (all, none) (append-nil _), g.next ∙ rw all)
+
+  -- a turn of the loop, up to a start that may lie past the end. The code counts a sample's bytes by a, b and c.
+  module _ {a b c : ℕ} (a_is : a ≡ n) (b_is : b ≡ n) (c_is : c ≡ n) {state bytes : List ℕ} {start size : ℕ} (chunk : ℕ) where
+    pub step : start < length bytes₀ / c → size ≡ min (length bytes₀ / c - start) chunk → Going W n k p state₀ bytes₀ state bytes (min start (length bytes₀ / n)) → {out next : List ℕ}
+        → out ≡ bytes_of_all n (decoded_piece W k p state (entries n (take (b * (start + size) - a * start) (drop (a * start) bytes))))
+        → next ≡ new_state W k p state (entries n (take (b * (start + size) - a * start) (drop (a * start) bytes)))
+        → Going W n k p state₀ bytes₀ next (put_mid (a * start) (b * (start + size) - a * start) bytes out) (min (start + chunk) (length bytes₀ / n))
+    step left size_is g {out} {next} out-is next_is =
+        let count : length bytes₀ / c ≡ length bytes₀ / n = rw c_is in
+        let here : min start (length bytes₀ / n) ≡ start = omega (arith, count, left) in
+        let stop : min (start + chunk) (length bytes₀ / n) ≡ start + size = omega (arith, count, size_is, left) in
+        rw (a_is, b_is, stop) (turn (rw here at g) (start + size) (omega arith) (omega (arith, count, size_is, left)) out next (rw (a_is, b_is) at out-is) (rw (a_is, b_is) at next_is))

@@ -5,7 +5,7 @@ use mathlib.Core.Path.{◌≡◌, refl, sym, ap, ◌∙◌}
 use mathlib.Core.Bool.{Bool, true, false}
 use mathlib.Core.List.{List, ◌++◌, append_assoc, append-nil}
 use Prim.Native.Nat.{ℕ, ◌+◌, ◌-◌, ◌*◌, ◌/◌, ◌≤◌, ◌<◌}
-use native.Mathlib.Nat.{mul-zero, mul-add, mul-le-mul_left, mul-div_cancel_left, sub-zero}
+use native.Mathlib.Nat.{mul-zero, mul-add, mul-le-mul_left, sub-zero}
 use native.Mathlib.Omega.{arith}
 use borrow.Author.Tests.{ltb-true, ltb-false, lt-ltb, le-ltb}
 use borrow.Rule.Slice.PartMut.{put_mid}
@@ -96,6 +96,11 @@ module _ (W k : ℕ) (p : List ℕ → ℕ) (xs : List ℕ) where
       let inside : 0 + end ≤ length xs = omega arith in
       rw sub-zero at (encoded_part 0 end inside 0 (omega arith) (λ early. refl))
 
+-- what stands at the front of a room of samples, past the first `skip`
+pub past_skip : {A : Type 0} (m skip : ℕ) (out rest : List A) → length out ≡ m
+    → take (length (take m (out ++ rest)) - skip) (drop skip (take m (out ++ rest))) ≡ drop skip out
+past_skip m skip out rest long = rw (take_at out rest m long) (take_all (length out - skip) (drop skip out) (omega (arith, length-drop skip out)))
+
 -- ---- one chunk: the samples from `from` on are loaded, m of them; all but the first `skip` are coded
 pub record Piece (n k : ℕ) (bytes : List ℕ) (from m skip start : ℕ) : Type 0 where
   pub some : 0 < n
@@ -131,9 +136,6 @@ module _ {n k : ℕ} {bytes : List ℕ} {from m skip start : ℕ} (c : Piece n k
   lent_long : length lent ≡ n * m
   lent_long = ap length lent_is ∙ length-take-le (n * m) (drop (n * from) bytes) (omega (arith, length-drop (n * from) bytes, split))
 
-  pub lent_count : length lent / n ≡ m
-  lent_count = rw lent_long (mul-div_cancel_left m some)
-
   lent_entries : entries n lent ≡ ys
   lent_entries = rw lent_is (lists.entries_part n some bytes from m (omega (arith, split)))
 
@@ -143,29 +145,13 @@ module _ {n k : ℕ} {bytes : List ℕ} {from m skip start : ℕ} (c : Piece n k
   pub loaded_front : (room zeros : List ℕ) → room ≡ entries n lent ++ drop (length lent / n) zeros → take m room ≡ ys
   loaded_front room zeros e = rw (e, lent_entries) (take_at ys (drop (length lent / n) zeros) m ys_long)
 
-  pub loaded_long : (room zeros : List ℕ) → room ≡ entries n lent ++ drop (length lent / n) zeros → length (take m room) ≡ m
-  loaded_long room zeros e = ap length (loaded_front room zeros e) ∙ ys_long
-
   rest : n * start + n * (m - skip) ≡ length bytes
   rest =
       let count : start + (m - skip) ≡ length bytes / n = omega (arith, begins, ends, near) in
       sym (mul-add n start (m - skip)) ∙ ap (λ (z : ℕ). n * z) count ∙ sym whole
 
-  -- the bytes that are loaded, and those that are coded, begin within all the bytes
-  pub from_within : n * from ≤ length bytes
-  from_within = omega (arith, split)
-
-  pub start_within : n * start ≤ length bytes
-  start_within = omega (arith, rest)
-
   left_long : length left ≡ n * (m - skip)
   left_long = simp (length-take, length-drop) (omega (arith, rest))
-
-  -- what is coded has room where it goes
-  pub store_fits : (room : List ℕ) → n * length (take (m - skip) (drop skip room)) ≤ length left
-  store_fits room =
-      let short : length (take (m - skip) (drop skip room)) ≤ m - skip = rw length-take (omega arith) in
-      rw left_long (mul-le-mul_left n short)
 
   module _ (W : ℕ) (p : List ℕ → ℕ) where
     coded : drop skip (encoded_buffer W k p ys) ≡ drop start (encoded_buffer W k p xs)
@@ -174,28 +160,19 @@ module _ {n k : ℕ} {bytes : List ℕ} {from m skip start : ℕ} (c : Piece n k
         ∙ rw begins (take_all (m - skip) (drop start (encoded_buffer W k p xs)) (omega (arith, length-drop start (encoded_buffer W k p xs), length_encoded W k p xs, lists.length_entries n bytes, ends, begins)))
 
     module _ {out : List ℕ} (out-is : out ≡ encoded_buffer W k p ys) where
-      out_long : length out ≡ m
+      pub out_long : length out ≡ m
       out_long = ap length out-is ∙ length_encoded W k p ys ∙ ys_long
-
-      pub coded_within : (after : List ℕ) → m ≤ length (out ++ after)
-      coded_within after = rw length-append (omega (arith, out_long))
 
       kept_long : length (drop skip out) ≡ m - skip
       kept_long = length-drop skip out ∙ ap (λ (z : ℕ). z - skip) out_long
 
-      kept : (after : List ℕ) → take (m - skip) (drop skip (out ++ after)) ≡ drop skip out
-      kept after =
-          let h : skip ≤ length out = omega (arith, out_long, near) in
-          rw (drop-append-le skip out after h) (take_at (drop skip out) after (m - skip) kept_long)
-
       -- what is stored: the coded part of the room, over the rest of the bytes
-      pub finished : (after last : List ℕ)
-          → last ≡ bytes_of_all n (take (m - skip) (drop skip (out ++ after))) ++ drop (n * length (take (m - skip) (drop skip (out ++ after)))) left
+      pub finished : {kept last : List ℕ} → kept ≡ drop skip out → last ≡ bytes_of_all n kept ++ drop (n * length kept) left
           → put_mid (n * start) (length bytes - n * start) bytes last ≡ take (n * start) bytes ++ bytes_of_all n (drop start (encoded_buffer W k p xs))
-      finished after last e =
+      finished same e =
           let past : length left ≤ n * length (drop skip out) = rw (kept_long, left_long) (omega arith) in
           let beyond : length (drop (n * start) bytes) ≤ length bytes - n * start = omega (arith, length-drop (n * start) bytes) in
-          rw (e, kept after, drop_of_length-le left past, append-nil, drop_of_length-le (drop (n * start) bytes) beyond, append-nil, out-is, coded)
+          rw (e, same, drop_of_length-le left past, append-nil, drop_of_length-le (drop (n * start) bytes) beyond, append-nil, out-is, coded)
 
 -- ---- the loop: from `end` on, bytes₀ is coded
 pub record Coding (W n k : ℕ) (p : List ℕ → ℕ) (bytes₀ bytes : List ℕ) (end : ℕ) : Type 0 where
@@ -235,9 +212,6 @@ module _ (W n k : ℕ) (p : List ℕ → ℕ) (bytes₀ : List ℕ) (some : 0 < 
 
     pub front : take (n * end) bytes ≡ take (n * end) bytes₀
     front = rw g.is (take_at (take (n * end) bytes₀) (bytes_of_all n (drop end all)) (n * end) front_long)
-
-    pub chunk_long : length (take (n * end) bytes) ≡ n * end
-    chunk_long = rw front front_long
 
     pub turn : (start : ℕ) → start ≤ end → (out : List ℕ)
         → out ≡ take (n * start) (take (n * end) bytes) ++ bytes_of_all n (drop start (encoded_buffer W k p (entries n (take (n * end) bytes))))

@@ -1,20 +1,19 @@
 -- A call over bytes that divide into samples is the call on the samples that lie in them, done or refused, with what it leaves in bytes:
 -- its early tests say nothing that the call's own do not, and samples and their bytes give each other back. And encoding that is done
 -- found nothing ragged. Assumes nothing.
+use Rattle.std.specs.Prelude.{is_ok}
 use mathlib.Core.Path.{◌≡◌, refl, sym, ap, ap₂, ◌∙◌}
 use mathlib.Core.Bool.{Bool, true, false, not, ◌&&◌, false≢true}
 use mathlib.Core.List.{List}
-use Prim.Native.Nat.{ℕ, ◌%◌, ◌/◌, ◌^◌}
+use Prim.Native.Nat.{ℕ, ◌%◌, ◌/◌}
 use native.Mathlib.Nat.{mul-mod_right}
 use native.Mathlib.Omega.{arith}
 use borrow.Author.Tests.{eq-eqb}
 use lib.Dec.{eqb}
 use lib.ListN.{length}
-use Rattle.kinds.specs.declared.Answer.{Answer}
-use Rattle.kinds.specs.declared.Answer.TheVariants.{Done, BadOrder, BadShift, BadLength}
+use Rattle.kinds.specs.declared.Refusal.TheVariants.{BadOrder, BadShift, BadLength}
 use Rattle.kinds.specs.declared.Width.{Width}
-use Rattle.kinds.specs.declared.Width.TheVariants.{Eight, Sixteen, ThirtyTwo}
-use Rattle.kinds.specs.Answers.{number_of, refuse, is_done, when_done}
+use Rattle.kinds.specs.Answers.{Answer, Done, answer_number, refuse, when_done}
 use Rattle.kinds.specs.Widths.{bits_of}
 use Rattle.rule.specs.Configuration.{Config}
 use Rattle.rule.specs.Refusals.{order_fits, shift_fits, coding_refusal, encoding_refusal, order_six_refusal}
@@ -30,49 +29,50 @@ use Rattle.calls.proofs.Leaving as calls
 use Rattle.byte_coding.specs.Bytes.{samples_in, samples_bytes, ragged}
 use Rattle.byte_coding.specs.Calls.{early, early_by, encode_laid, encode_bytes, decode_laid, decode_bytes}
 use Rattle.byte_coding.proofs.Leaving as leaving
-use Rattle.byte_coding.proofs.Lengths.{some_bytes, entire_length}
+use Rattle.sample.proofs.Sizes.{some_bytes, bytes_bits}
+use Rattle.byte_coding.proofs.Lengths.{entire_length}
 use Rattle.byte_coding.proofs.Below.{bytes_below}
 
 -- ---- where nothing is ragged
 module _ (W : ℕ) (c : Config) where
   -- what the early tests refuse, the call's own do
-  coding_early : (n : ℕ) → is_done (early W c false) ≡ false → coding_refusal W c n ≡ early W c false
+  coding_early : (n : ℕ) → is_ok (early W c false) ≡ false → coding_refusal W c n ≡ early W c false
   unfolding early coding_refusal
   coding_early n fails = go (order_fits c.order) (shift_fits W c.shift) _ fails
     where
-      go : (o s : Bool) (later : Answer) → is_done (refuse (not o) BadOrder (refuse (not s) BadShift Done)) ≡ false
+      go : (o s : Bool) (later : Answer) → is_ok (refuse (not o) BadOrder (refuse (not s) BadShift Done)) ≡ false
           → refuse (not o) BadOrder (refuse (not s) BadShift later) ≡ refuse (not o) BadOrder (refuse (not s) BadShift Done)
       go true true later fails = absurd (false≢true (sym fails))
       go true false later fails = refl
       go false s later fails = refl
 
-  encoding_early : (n m : ℕ) → is_done (early W c false) ≡ false → encoding_refusal W c n m ≡ early W c false
+  encoding_early : (n m : ℕ) → is_ok (early W c false) ≡ false → encoding_refusal W c n m ≡ early W c false
   unfolding encoding_refusal
   encoding_early n m fails = rw (coding_early n fails, fails)
 
-  decoding_early : (way : Way) (n : ℕ) → is_done (early_by way W c false) ≡ false → decoding.refusal_by way W c n ≡ early_by way W c false
+  decoding_early : (way : Way) (n : ℕ) → is_ok (early_by way W c false) ≡ false → decoding.refusal_by way W c n ≡ early_by way W c false
   unfolding early_by order_six_refusal
   decoding_early General n fails = coding_early n fails
   decoding_early OrderSix n fails = go (eqb c.order 6) fails
     where
-      go : (six : Bool) → is_done (refuse (not six) BadOrder (early W c false)) ≡ false
+      go : (six : Bool) → is_ok (refuse (not six) BadOrder (early W c false)) ≡ false
           → refuse (not six) BadOrder (coding_refusal W c n) ≡ refuse (not six) BadOrder (early W c false)
       go true fails = coding_early n fails
       go false fails = refl
 
   encode_entire : (samples state : List ℕ) → encode_bytes W c false samples state ≡ encode_laid W c samples state
   unfolding encode_bytes
-  encode_entire samples state = go (is_done (early W c false)) refl
+  encode_entire samples state = go (is_ok (early W c false)) refl
     where
-      go : (t : Bool) → is_done (early W c false) ≡ t → encode_bytes W c false samples state ≡ encode_laid W c samples state
+      go : (t : Bool) → is_ok (early W c false) ≡ t → encode_bytes W c false samples state ≡ encode_laid W c samples state
       go true e = rw e
       go false e = rw e (leaving.encode_refused W c samples state (sym (encoding_early _ _ e)) e)
 
   decode_entire : (way : Way) (state piece : List ℕ) → decode_bytes way W c false state piece ≡ decode_laid way W c state piece
   unfolding decode_bytes
-  decode_entire way state piece = go (is_done (early_by way W c false)) refl
+  decode_entire way state piece = go (is_ok (early_by way W c false)) refl
     where
-      go : (t : Bool) → is_done (early_by way W c false) ≡ t → decode_bytes way W c false state piece ≡ decode_laid way W c state piece
+      go : (t : Bool) → is_ok (early_by way W c false) ≡ t → decode_bytes way W c false state piece ≡ decode_laid way W c state piece
       go true e = rw e
       go false e = rw e (leaving.decode_refused way W c state piece (sym (decoding_early way _ e)) e)
 
@@ -81,11 +81,6 @@ not_ragged : (W : ℕ) (weights state samples : List ℕ) → is_entire 4 weight
 not_ragged W weights state samples w s p = rw (w, s, p)
 
 -- ---- samples and their bytes, where a sample takes W / 8 of them
-pub bits_of_bytes : (w : Width) → 256 ^ (bits_of w / 8) ≡ 2 ^ bits_of w
-bits_of_bytes Eight = refl
-bits_of_bytes Sixteen = refl
-bits_of_bytes ThirtyTwo = refl
-
 -- bytes that divide into samples
 pub record Divided (W : ℕ) (bytes : List ℕ) : Type 0 where
   pub below : Bytes bytes
@@ -97,10 +92,10 @@ module _ (w : Width) where
 
   pub bytes_of_samples : {bytes : List ℕ} → Divided W bytes → samples_bytes W (samples_in W bytes) ≡ bytes
   bytes_of_samples {bytes} d =
-      lists.bytes_of_entries (W / 8) (some_bytes w) bytes d.below (length bytes / (W / 8)) (entire_length (W / 8) (length bytes) d.entire)
+      lists.bytes_of_entries (W / 8) (some_bytes w refl) bytes d.below (length bytes / (W / 8)) (entire_length (W / 8) (length bytes) d.entire)
 
   pub samples_of_bytes : (xs : List ℕ) → Samples W xs → samples_in W (samples_bytes W xs) ≡ xs
-  samples_of_bytes xs samples = lists.entries_of_bytes (W / 8) (some_bytes w) xs (λ i. rw (bits_of_bytes w) (samples.below i))
+  samples_of_bytes xs samples = lists.entries_of_bytes (W / 8) (some_bytes w refl) xs (λ i. rw (bytes_bits w refl) (samples.below i))
 
   pub bytes_divided : (xs : List ℕ) → Divided W (samples_bytes W xs)
   bytes_divided xs =
@@ -123,15 +118,15 @@ module _ (w : Width) where
 
       pub encode_in_bytes : encode_bytes W c (ragged W weights state samples) samples state
           ≡ encoded_bytes (encoding.encode W c (samples_in W samples) (samples_in W state))
-      encode_in_bytes = rw (not_ragged W weights state samples weighed h.entire s.entire) (encode_entire W c samples state ∙ go (is_done tested) refl)
+      encode_in_bytes = rw (not_ragged W weights state samples weighed h.entire s.entire) (encode_entire W c samples state ∙ go (is_ok tested) refl)
         where
-          go : (t : Bool) → is_done tested ≡ t → encode_laid W c samples state ≡ encoded_bytes (encoding.encode W c (samples_in W samples) (samples_in W state))
+          go : (t : Bool) → is_ok tested ≡ t → encode_laid W c samples state ≡ encoded_bytes (encoding.encode W c (samples_in W samples) (samples_in W state))
           go true e =
               sym (leaving.encode_done W c samples state refl e refl refl)
               ∙ ap encoded_bytes (calls.encode_done W c (samples_in W samples) (samples_in W state) refl e refl refl)
           go false e =
               sym (leaving.encode_refused W c samples state refl e)
-              ∙ ap₂ (encoding.refused tested) (sym (bytes_of_samples s)) (sym (bytes_of_samples h))
+              ∙ ap₂ (encoding.left tested) (sym (bytes_of_samples s)) (sym (bytes_of_samples h))
               ∙ ap encoded_bytes (calls.encode_refused W c (samples_in W samples) (samples_in W state) refl e)
 
     module _ {state piece : List ℕ} (h : Divided W state) (r : Divided W piece) where
@@ -140,24 +135,24 @@ module _ (w : Width) where
 
       pub decode_in_bytes : (way : Way) → decode_bytes way W c (ragged W weights state piece) state piece
           ≡ decoded_bytes (decoding.decode_by way W c (samples_in W state) (samples_in W piece))
-      decode_in_bytes way = rw (not_ragged W weights state piece weighed h.entire r.entire) (decode_entire W c way state piece ∙ go (is_done (tests way)) refl)
+      decode_in_bytes way = rw (not_ragged W weights state piece weighed h.entire r.entire) (decode_entire W c way state piece ∙ go (is_ok (tests way)) refl)
         where
-          go : (t : Bool) → is_done (tests way) ≡ t → decode_laid way W c state piece ≡ decoded_bytes (decoding.decode_by way W c (samples_in W state) (samples_in W piece))
+          go : (t : Bool) → is_ok (tests way) ≡ t → decode_laid way W c state piece ≡ decoded_bytes (decoding.decode_by way W c (samples_in W state) (samples_in W piece))
           go true e =
               sym (leaving.decode_done way W c state piece refl e refl refl)
               ∙ ap decoded_bytes (calls.decode_done W c (samples_in W state) (samples_in W piece) refl e refl refl)
           go false e =
               sym (leaving.decode_refused way W c state piece refl e)
-              ∙ ap₂ (decoding.refused (tests way)) (sym (bytes_of_samples h)) (sym (bytes_of_samples r))
+              ∙ ap₂ (decoding.left (tests way)) (sym (bytes_of_samples h)) (sym (bytes_of_samples r))
               ∙ ap decoded_bytes (calls.decode_refused W c (samples_in W state) (samples_in W piece) refl e)
 
 -- ---- encoding that is done found nothing ragged
-pub done_even : (W : ℕ) (c : Config) (weights state samples : List ℕ) → number_of (encode_bytes W c (ragged W weights state samples) samples state).said.answer ≡ 0
+pub done_even : (W : ℕ) (c : Config) (weights state samples : List ℕ) → answer_number (encode_bytes W c (ragged W weights state samples) samples state).said ≡ 0
     → (is_entire 4 weights ≡ true) × (is_entire (W / 8) state ≡ true) × (is_entire (W / 8) samples ≡ true)
 unfolding encode_bytes early
 done_even W c weights state samples zero = go (is_entire 4 weights) (is_entire (W / 8) state) (is_entire (W / 8) samples) (even _ (order_fits c.order) (shift_fits W c.shift) zero)
   where
-    even : (torn o s : Bool) → number_of (when_done (refuse (not o) BadOrder (refuse (not s) BadShift (refuse torn BadLength Done))) (encode_laid W c samples state) (encoding.refused (refuse (not o) BadOrder (refuse (not s) BadShift (refuse torn BadLength Done))) samples state)).said.answer ≡ 0
+    even : (torn o s : Bool) → answer_number (when_done (refuse (not o) BadOrder (refuse (not s) BadShift (refuse torn BadLength Done))) (encode_laid W c samples state) (encoding.left (refuse (not o) BadOrder (refuse (not s) BadShift (refuse torn BadLength Done))) samples state)).said ≡ 0
         → torn ≡ false
     even false o s zero = refl
     even true true true zero = absurd (omega arith)

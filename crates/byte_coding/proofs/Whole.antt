@@ -1,6 +1,7 @@
 -- Demand 3 over bytes: the saved state's bytes and the encoded bytes after the first k samples, cut in any way between samples and
 -- decoded by ways that fit, give the bytes of the samples back; also with the answers' numbers. Then the refusals that encoding and
 -- decoding share. Assumes nothing.
+use Rattle.std.specs.Prelude.{is_ok}
 use mathlib.Core.Path.{◌≡◌, refl, sym, ap, ap₂, ◌∙◌}
 use mathlib.Core.Bool.{Bool, true, false, cond}
 use mathlib.Core.List.{List, [], ◌∷◌, ◌++◌, append_assoc}
@@ -8,14 +9,11 @@ use mathlib.Core.Logic.{◌≢◌}
 use Prim.Native.Nat.{ℕ, ◌*◌, ◌/◌, ◌≤◌}
 use native.Mathlib.Nat.{mul-le-mul_left}
 use native.Mathlib.Omega.{arith}
-use lib.Dec.{eqb}
 use lib.ListN.{length, take, drop, take-append-drop}
 use lib.Pow.{pow_pos}
 use lib.Seq.{drop_at, length-take-le, take-append_seam, drop-append_seam}
-use Rattle.kinds.specs.declared.Answer.{Answer}
-use Rattle.kinds.specs.declared.Answer.TheVariants.{Done}
 use Rattle.kinds.specs.declared.Width.{Width}
-use Rattle.kinds.specs.Answers.{number_of, is_done, when_done}
+use Rattle.kinds.specs.Answers.{Answer, Done, answer_number, when_done}
 use Rattle.kinds.specs.Widths.{bits_of}
 use Rattle.rule.specs.Configuration.{Config}
 use Rattle.rule.specs.Prediction.{prediction}
@@ -37,10 +35,11 @@ use Rattle.calls.proofs.Whole as calls
 use Rattle.byte_coding.specs.Bytes.{samples_in, samples_bytes, ragged}
 use Rattle.byte_coding.specs.Calls.{early, early_by, encode_laid, encode_bytes, decode_laid, decode_bytes}
 use Rattle.byte_coding.specs.Pieces.{byte_decodings, numbered_byte_decodings, AllEntire}
-use Rattle.byte_coding.proofs.Lengths.{some_bytes, entire_length, ways_agree_in_bytes}
+use Rattle.sample.proofs.Sizes.{some_bytes, bytes_bits}
+use Rattle.byte_coding.proofs.Lengths.{entire_length, ways_agree_in_bytes}
 use Rattle.byte_coding.proofs.Coded.{front_entries}
 use Rattle.byte_coding.proofs.Below.{append_samples, drop_samples, entries_samples, state_samples, encoded_samples}
-use Rattle.byte_coding.proofs.Entire.{Divided, bits_of_bytes, bytes_of_samples, samples_of_bytes, bytes_divided, encoded_bytes, decoded_bytes, encode_in_bytes, decode_in_bytes, done_even}
+use Rattle.byte_coding.proofs.Entire.{Divided, bytes_of_samples, samples_of_bytes, bytes_divided, encoded_bytes, decoded_bytes, encode_in_bytes, decode_in_bytes, done_even}
 
 -- ---- the pieces: the samples in each, which are cut as the bytes are
 abbrev in_samples : ℕ → List Asked → List Asked
@@ -74,7 +73,7 @@ module _ (w : Width) where
   joined_samples : (asked : List Asked) → AllDivided W asked → Samples W (joined (in_samples W asked))
   joined_samples [] parts = record { below = λ i. pow_pos W }
   joined_samples (a ∷ asked) parts =
-      append_samples W (samples_in W a.piece) (joined (in_samples W asked)) (entries_samples W (bits_of_bytes w) a.piece parts.0.below) (joined_samples asked parts.1)
+      append_samples W (samples_in W a.piece) (joined (in_samples W asked)) (entries_samples W (bytes_bits w refl) a.piece parts.0.below) (joined_samples asked parts.1)
 
   -- the bytes after the first k samples
   bytes_after : (k : ℕ) (xs : List ℕ) → k ≤ length xs → drop (W / 8 * k) (samples_bytes W xs) ≡ samples_bytes W (drop k xs)
@@ -94,16 +93,16 @@ module _ (w : Width) where
 
       call_samples : Samples W (decoding.decode_by way W c state piece).state
       unfolding decoding.answered
-      call_samples = go (is_done (decoding.refusal_by way W c (length state))) refl
+      call_samples = go (is_ok (decoding.refusal_by way W c (length state))) refl
         where
-          go : (t : Bool) → is_done (decoding.refusal_by way W c (length state)) ≡ t → Samples W (decoding.decode_by way W c state piece).state
+          go : (t : Bool) → is_ok (decoding.refusal_by way W c (length state)) ≡ t → Samples W (decoding.decode_by way W c state piece).state
           go true e = rw e (state_samples W c.order (prediction W c) state piece samples)
           go false e = rw e samples
 
     -- from the bytes of a state on, what the calls give are the bytes of what the calls on the samples give
     bytes_done : (state : List ℕ) → Samples W state → (asked : List Asked) → AllDivided W asked
-        → Each (λ (d : decoding.Decoded). d.said.answer ≡ Done) (decodings W c state (in_samples W asked))
-        → Each (λ (d : decoding.Decoded). d.said.answer ≡ Done) (byte_decodings W c weights (samples_bytes W state) asked)
+        → Each (λ (d : decoding.Decoded). d.said ≡ Done) (decodings W c state (in_samples W asked))
+        → Each (λ (d : decoding.Decoded). d.said ≡ Done) (byte_decodings W c weights (samples_bytes W state) asked)
     bytes_done state samples [] parts each = tt
     bytes_done state samples (a ∷ asked) parts each =
         rw (call_in_bytes a.way state a.piece samples parts.0)
@@ -154,7 +153,7 @@ module _ (w : Width) where
       encoded = encoding.encode W c xs lent
 
       xs_below : Samples W xs
-      xs_below = entries_samples W (bits_of_bytes w) samples below
+      xs_below = entries_samples W (bytes_bits w refl) samples below
 
       module _ (zero : (encoding.numbered in_bytes).number ≡ 0) (cut : joined asked ≡ drop (W / 8 * c.order) in_bytes.samples) where
         even : (is_entire 4 weights ≡ true) × (is_entire (W / 8) state ≡ true) × (is_entire (W / 8) samples ≡ true)
@@ -166,8 +165,8 @@ module _ (w : Width) where
         encoded_bytes_lem : in_bytes ≡ encoded_bytes w encoded
         encoded_bytes_lem = encode_in_bytes w c weights even.0 divided (record { below = held; entire = even.1 })
 
-        passed : is_done (encoding_refusal W c (length lent) (length xs)) ≡ true
-        passed = ap is_done (sym (leaving.encode_said W c xs lent)) ∙ ap (λ (n : ℕ). eqb n 0) (rw encoded_bytes_lem at zero)
+        passed : is_ok (encoding_refusal W c (length lent) (length xs)) ≡ true
+        passed = ap is_ok (sym (leaving.encode_said W c xs lent)) ∙ leaving.zero_ok _ (rw encoded_bytes_lem at zero)
 
         enough : c.order ≤ length xs
         enough = (encoding_passed W c (length lent) (length xs) passed).1
@@ -175,7 +174,7 @@ module _ (w : Width) where
         abbrev buffer : List ℕ
         buffer = encoded_buffer W c.order (prediction W c) xs
 
-        encoded_is : encoding.done (encoding_refusal W c (length lent) (length xs)) buffer (take c.order xs) ≡ encoded
+        encoded_is : encoding.left (encoding_refusal W c (length lent) (length xs)) buffer (take c.order xs) ≡ encoded
         encoded_is = leaving.encode_done W c xs lent refl passed refl refl
 
         saved_below : Samples W encoded.state
@@ -183,8 +182,8 @@ module _ (w : Width) where
             let n = W / 8 in
             let room : n * c.order ≤ length samples
             = omega (arith, entire_length n (length samples) even.2, mul-le-mul_left n enough, ap (λ (m : ℕ). n * m) (lists.length_entries n samples)) in
-            rw (← encoded_is, ← front_entries n (some_bytes w) samples c.order room)
-            (entries_samples W (bits_of_bytes w) (take (n * c.order) samples) (take_bytes (n * c.order) below))
+            rw (← encoded_is, ← front_entries n (some_bytes w refl) samples c.order room)
+            (entries_samples W (bytes_bits w refl) (take (n * c.order) samples) (take_bytes (n * c.order) below))
 
         parts : AllDivided W asked
         parts = pieces_divided W asked (rw (cut, encoded_bytes_lem) (drop_bytes (W / 8 * c.order) (bytes_divided w encoded.samples).below)) entire
@@ -199,11 +198,11 @@ module _ (w : Width) where
             ∙ samples_of_bytes w (drop c.order buffer) (drop_samples W c.order buffer (encoded_samples W c.order (prediction W c) xs)))
 
       pub bytes_whole : let e = encode_bytes W c (ragged W weights state samples) samples state in
-          e.said.answer ≡ Done → joined asked ≡ drop (W / 8 * c.order) e.samples
+          e.said ≡ Done → joined asked ≡ drop (W / 8 * c.order) e.samples
           → let ds = byte_decodings W c weights e.state asked in
-          Each (λ (d : decoding.Decoded). d.said.answer ≡ Done) ds × (outputs ds ++ final_state e.state ds ≡ samples)
+          Each (λ (d : decoding.Decoded). d.said ≡ Done) ds × (outputs ds ++ final_state e.state ds ≡ samples)
       bytes_whole said cut =
-          let z = ap number_of said in
+          let z = ap answer_number said in
           let e = encoded_bytes_lem z cut in
           let whole = calls.whole W c xs lent xs_below (in_samples W asked) (samples_fit W c asked fit) (rw e at said) (residuals z cut) in
           rw e (
@@ -232,34 +231,34 @@ said_when said true true done refused first same = same
 said_when said true false done refused first same = refl
 said_when said false d done refused first same = refl
 
-encode_says : (W : ℕ) (c : Config) (torn : Bool) (samples state : List ℕ) → (encode_bytes W c torn samples state).said.answer
-    ≡ when_done (early W c torn) (encoding.encode W c (samples_in W samples) (samples_in W state)).said.answer (early W c torn)
+encode_says : (W : ℕ) (c : Config) (torn : Bool) (samples state : List ℕ) → (encode_bytes W c torn samples state).said
+    ≡ when_done (early W c torn) (encoding.encode W c (samples_in W samples) (samples_in W state)).said (early W c torn)
 unfolding encode_bytes encode_laid
 encode_says W c torn samples state =
     let e = encoding.encode W c (samples_in W samples) (samples_in W state) in
-    said_when (λ (e : encoding.Encoded). e.said.answer) (is_done (early W c torn)) (is_done e.said.answer)
-    (encoding.left e.said (samples_bytes W e.samples) (samples_bytes W e.state)) (encoding.refused e.said.answer samples state)
-    (encoding.refused (early W c torn) samples state) refl
+    said_when (λ (e : encoding.Encoded). e.said) (is_ok (early W c torn)) (is_ok e.said)
+    (encoding.left e.said (samples_bytes W e.samples) (samples_bytes W e.state)) (encoding.left e.said samples state)
+    (encoding.left (early W c torn) samples state) refl
 
-decode_says : (W : ℕ) (c : Config) (torn : Bool) (state piece : List ℕ) → (decode_bytes General W c torn state piece).said.answer
-    ≡ when_done (early W c torn) (decoding.decode W c (samples_in W state) (samples_in W piece)).said.answer (early W c torn)
+decode_says : (W : ℕ) (c : Config) (torn : Bool) (state piece : List ℕ) → (decode_bytes General W c torn state piece).said
+    ≡ when_done (early W c torn) (decoding.decode W c (samples_in W state) (samples_in W piece)).said (early W c torn)
 unfolding decode_bytes decode_laid early_by
 decode_says W c torn state piece =
     let d = decoding.decode W c (samples_in W state) (samples_in W piece) in
-    said_when (λ (d : decoding.Decoded). d.said.answer) (is_done (early W c torn)) (is_done d.said.answer)
-    (decoding.left d.said (samples_bytes W d.state) (samples_bytes W d.piece)) (decoding.refused d.said.answer state piece)
-    (decoding.refused (early W c torn) state piece) refl
+    said_when (λ (d : decoding.Decoded). d.said) (is_ok (early W c torn)) (is_ok d.said)
+    (decoding.left d.said (samples_bytes W d.state) (samples_bytes W d.piece)) (decoding.left d.said state piece)
+    (decoding.left (early W c torn) state piece) refl
 
 pub bytes_refused_alike : (W : ℕ) (c : Config) (torn : Bool) (samples lent : List ℕ) (way : Way) → Fits c way → (state piece : List ℕ) → length state ≡ length lent
-    → (a : Answer) → number_of a ≢ 5 → (encode_bytes W c torn samples lent).said.answer ≡ a → (decode_bytes way W c torn state piece).said.answer ≡ a
+    → (a : Answer) → answer_number a ≢ 5 → (encode_bytes W c torn samples lent).said ≡ a → (decode_bytes way W c torn state piece).said ≡ a
 bytes_refused_alike W c torn samples lent way fits state piece same a other said =
     rw (ways_agree_in_bytes W c torn state piece way fits)
-    (decode_says W c torn state piece ∙ go (is_done (early W c torn)) (sym (encode_says W c torn samples lent) ∙ said))
+    (decode_says W c torn state piece ∙ go (is_ok (early W c torn)) (sym (encode_says W c torn samples lent) ∙ said))
   where
     count : length (samples_in W state) ≡ length (samples_in W lent)
     count = lists.length_entries (W / 8) state ∙ rw same (sym (lists.length_entries (W / 8) lent))
 
-    go : (t : Bool) → cond t (encoding.encode W c (samples_in W samples) (samples_in W lent)).said.answer (early W c torn) ≡ a
-        → cond t (decoding.decode W c (samples_in W state) (samples_in W piece)).said.answer (early W c torn) ≡ a
+    go : (t : Bool) → cond t (encoding.encode W c (samples_in W samples) (samples_in W lent)).said (early W c torn) ≡ a
+        → cond t (decoding.decode W c (samples_in W state) (samples_in W piece)).said (early W c torn) ≡ a
     go true said = calls.refused_alike W c (samples_in W samples) (samples_in W lent) General tt (samples_in W state) (samples_in W piece) count a other said
     go false said = said

@@ -1,8 +1,7 @@
 -- What the lengths of byte slices decide.
 use Rattle.std.specs.Prelude.{◌≡◌, not, ◌&&◌, List, ℕ, ◌+◌, ◌*◌, ◌/◌, ◌%◌, ◌≤◌, eqb, length}
-use Rattle.kinds.specs.declared.Answer.{Answer}
-use Rattle.kinds.specs.declared.Answer.TheVariants.{Done, BadOrder, BadShift, BadLength}
-use Rattle.kinds.specs.Answers.{refuse}
+use Rattle.kinds.specs.declared.Refusal.TheVariants.{BadOrder, BadShift, BadLength}
+use Rattle.kinds.specs.Answers.{Answer, Done, refuse}
 use Rattle.rule.specs.Refusals.{order_fits, shift_fits}
 use Rattle.calls.specs.declared.Way.{Way}
 use Rattle.calls.specs.declared.Way.TheVariants.{General, OrderSix}

@@ -1,12 +1,16 @@
-// What has no width in coding over bytes: the tests that need nothing but the lengths of byte slices.
+// Coding of samples that lie in bytes, little-endian, chunk by chunk through fixed arrays. Here are the tests that need nothing but the
+// lengths of byte slices.
 #![tactic(auto)]
 
-ghost use Rattle.std.specs.Prelude.{◌≡◌, ◌/◌, ◌%◌, ◌<◌, eqb};
+ghost use Rattle.std.specs.Prelude.{◌≡◌, ◌/◌, length};
 ghost use Rattle.kinds.specs.Widths.{bits_of};
 ghost use Rattle.byte_coding.specs.Lengths.{layout_refusal, layout_by};
 
 use calls::Way;
-use kinds::{Answer, Order, Shift, Width};
+use kinds::{Configuration, Refusal, Width};
+
+pub mod decoder;
+pub mod encoder;
 
 // How many bytes a sample takes.
 fn sample_bytes(width: Width) -> usize
@@ -19,44 +23,32 @@ fn sample_bytes(width: Width) -> usize
     }
 }
 
-fn is_entire(length: usize, bytes: usize) -> bool
-    requires { 0 < bytes }
-    ensures { result ≡ eqb (length % bytes) 0 }
-{
-    length % bytes == 0
-}
-
 // The tests that need no weight, from the lengths in bytes: 1, 2, then 4, ragged lengths first.
+#[tactic(auto, unfolding(crate::specs::Lengths::layout_refusal))]
 pub fn layout_answer(
     width: Width,
-    order: Order,
-    shift: Shift,
-    weights: usize,
+    config: Configuration<'_, u8>,
     state: usize,
     samples: usize,
-) -> Answer
-    ensures { result ≡ layout_refusal (bits_of width) order.0 shift.0 weights state samples }
+) -> Result<(), Refusal>
+    ensures { result ≡ layout_refusal (bits_of width) config.entry.order.0 config.entry.shift.0 (length config.entry.weights.now) state samples }
 {
-    if !admission::limits::is_order(order) {
-        return Answer::BadOrder;
+    if !admission::limits::is_order(config.order) {
+        return Err(Refusal::BadOrder);
     }
-    if !admission::limits::is_shift(width, shift) {
-        return Answer::BadShift;
+    if !admission::limits::is_shift(width, config.shift) {
+        return Err(Refusal::BadShift);
     }
-    if !is_entire(weights, 4) {
-        return Answer::BadLength;
-    }
+    let weights = config.weights.len();
     let bytes = sample_bytes(width);
-    if !is_entire(state, bytes) {
-        return Answer::BadLength;
+    if weights % 4 != 0
+        || state % bytes != 0
+        || samples % bytes != 0
+        || weights / 4 != config.order.0
+    {
+        return Err(Refusal::BadLength);
     }
-    if !is_entire(samples, bytes) {
-        return Answer::BadLength;
-    }
-    if weights / 4 != order.0 {
-        return Answer::BadLength;
-    }
-    Answer::Done
+    Ok(())
 }
 
 // The same for decoding by a way: the way of order 6 refuses every other order first.
@@ -64,21 +56,14 @@ pub fn layout_answer(
 pub fn layout_answer_by(
     way: Way,
     width: Width,
-    order: Order,
-    shift: Shift,
-    weights: usize,
+    config: Configuration<'_, u8>,
     state: usize,
     samples: usize,
-) -> Answer
-    ensures { result ≡ layout_by way (bits_of width) order.0 shift.0 weights state samples }
+) -> Result<(), Refusal>
+    ensures { result ≡ layout_by way (bits_of width) config.entry.order.0 config.entry.shift.0 (length config.entry.weights.now) state samples }
 {
-    match way {
-        Way::General => layout_answer(width, order, shift, weights, state, samples),
-        Way::OrderSix => {
-            if order.0 != 6 {
-                return Answer::BadOrder;
-            }
-            layout_answer(width, order, shift, weights, state, samples)
-        }
+    if way == Way::OrderSix && config.order.0 != 6 {
+        return Err(Refusal::BadOrder);
     }
+    layout_answer(width, config, state, samples)
 }

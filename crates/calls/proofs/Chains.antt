@@ -7,8 +7,7 @@ use native.Mathlib.Omega.{arith}
 use borrow.Author.Tests.{le-leb}
 use lib.ListN.{length, take, drop, length-append}
 use lib.Seq.{take_at, length-take-le}
-use Rattle.kinds.specs.declared.Answer.TheVariants.{Done}
-use Rattle.kinds.specs.Answers.{number_of}
+use Rattle.kinds.specs.Answers.{Done, answer_number}
 use Rattle.rule.specs.Configuration.{Config}
 use Rattle.calls.specs.declared.Way.{Way}
 use Rattle.calls.specs.Decode.{Decoded, left, decode_by, Numbered, numbered}
@@ -49,11 +48,11 @@ module _ (W : ℕ) (c : Config) where
       ap (λ (later : List Numbered). numbered d ∷ later) (numbered_decodings_lem d.state asked)
 
   module _ (state : List ℕ) (asked : List Asked) where
-    pub numbers_zero : Each (λ (d : Decoded). d.said.answer ≡ Done) (decodings W c state asked)
+    pub numbers_zero : Each (λ (d : Decoded). d.said ≡ Done) (decodings W c state asked)
         → Each (λ (n : Numbered). n.number ≡ 0) (numbered_decodings W c state asked)
     numbers_zero each =
         rw (← numbered_decodings_lem state asked)
-        (each_shown numbered (λ (d : Decoded). d.said.answer ≡ Done) (λ (n : Numbered). n.number ≡ 0) (λ d said. ap number_of said) (decodings W c state asked) each)
+        (each_shown numbered (λ (d : Decoded). d.said ≡ Done) (λ (n : Numbered). n.number ≡ 0) (λ d said. ap answer_number said) (decodings W c state asked) each)
 
     pub numbered_outputs_lem : numbered_outputs (numbered_decodings W c state asked) ≡ outputs (decodings W c state asked)
     numbered_outputs_lem = rw (← numbered_decodings_lem state asked) (joined_seen numbered (λ (n : Numbered). n.piece) (decodings W c state asked))
@@ -103,10 +102,10 @@ module _ (W : ℕ) (c : Config) (count : ℕ) (few : count ≤ 32) where
   count_kept array (a ∷ asked) = count_kept (decode_by_value a.way W c array count a.piece).array asked
 
   module _ (array : List ℕ) (asked : List Asked) (fit : AllFit c asked) (enough : count ≤ length array) where
-    pub held_done : Each (λ (d : Decoded). d.said.answer ≡ Done) (decodings W c (take count array) asked)
-        → Each (λ (h : Held). h.said.answer ≡ Done) (held_decodings W c array count asked)
+    pub held_done : Each (λ (d : Decoded). d.said ≡ Done) (decodings W c (take count array) asked)
+        → Each (λ (h : Held). h.said ≡ Done) (held_decodings W c array count asked)
     held_done each =
-        each_seen (on_state count) (λ (d : Decoded). d.said.answer ≡ Done) (held_decodings W c array count asked)
+        each_seen (on_state count) (λ (d : Decoded). d.said ≡ Done) (held_decodings W c array count asked)
         (rw (held_decodings_lem array asked fit enough) each)
 
     pub held_outputs_lem : held_outputs (held_decodings W c array count asked) ≡ outputs (decodings W c (take count array) asked)

@@ -1,21 +1,20 @@
 -- However residuals are cut: calls in order answer alike, and their joined outputs and the last state are those of one call on all the
 -- residuals, whether it is done or refused; so two cuts agree. Where the configuration's tests pass for a state of k samples, every
 -- call is done. Assumes nothing.
+use Rattle.std.specs.Prelude.{is_ok}
 use mathlib.Core.Path.{◌≡◌, refl, sym, ap, ◌∙◌}
 use mathlib.Core.Bool.{Bool, true, false}
 use mathlib.Core.List.{List, [], ◌∷◌, ◌++◌}
 use Prim.Native.Nat.{ℕ}
 use lib.ListN.{length}
-use Rattle.kinds.specs.declared.Answer.{Answer}
-use Rattle.kinds.specs.declared.Answer.TheVariants.{Done}
-use Rattle.kinds.specs.Answers.{is_done}
+use Rattle.kinds.specs.Answers.{Answer, Done}
 use Rattle.rule.specs.Configuration.{Config}
 use Rattle.rule.specs.Prediction.{prediction}
 use Rattle.rule.specs.Coding.{decoded_piece, new_state}
 use Rattle.rule.specs.Refusals.{coding_refusal}
 use Rattle.rule.proofs.Extending as extending
 use Rattle.rule.proofs.Passing.{coding_passed}
-use Rattle.calls.specs.Decode.{Decoded, left, done, refused, decode}
+use Rattle.calls.specs.Decode.{Decoded, left, decode}
 use Rattle.calls.specs.Pieces.{Asked, joined, decodings, outputs, final_state, Each, AllFit}
 use Rattle.calls.proofs.Leaving.{decode_done, decode_refused}
 use Rattle.calls.proofs.Ways.{ways_agree}
@@ -26,30 +25,30 @@ module _ (W : ℕ) (c : Config) where
   tested state = coding_refusal W c (length state)
 
   abbrev decoded : List ℕ → List ℕ → Decoded
-  decoded state piece = done (tested state) (new_state W c.order (prediction W c) state piece) (decoded_piece W c.order (prediction W c) state piece)
+  decoded state piece = left (tested state) (new_state W c.order (prediction W c) state piece) (decoded_piece W c.order (prediction W c) state piece)
 
-  passed : (state piece : List ℕ) → is_done (tested state) ≡ true → decode W c state piece ≡ decoded state piece
+  passed : (state piece : List ℕ) → is_ok (tested state) ≡ true → decode W c state piece ≡ decoded state piece
   passed state piece passes = sym (decode_done W c state piece refl passes refl refl)
 
-  kept : (state piece : List ℕ) → is_done (tested state) ≡ false → decode W c state piece ≡ refused (tested state) state piece
+  kept : (state piece : List ℕ) → is_ok (tested state) ≡ false → decode W c state piece ≡ left (tested state) state piece
   kept state piece fails = sym (decode_refused W c state piece refl fails)
 
   either : (P : Decoded → Type 0) (state piece : List ℕ)
-      → (is_done (tested state) ≡ true → P (decoded state piece)) → (is_done (tested state) ≡ false → P (refused (tested state) state piece))
+      → (is_ok (tested state) ≡ true → P (decoded state piece)) → (is_ok (tested state) ≡ false → P (left (tested state) state piece))
       → P (decode W c state piece)
-  either P state piece if-done if-refused = go (is_done (tested state)) refl
+  either P state piece if-done if-refused = go (is_ok (tested state)) refl
     where
-      go : (t : Bool) → is_done (tested state) ≡ t → P (decode W c state piece)
+      go : (t : Bool) → is_ok (tested state) ≡ t → P (decode W c state piece)
       go true e = rw (passed state piece e) (if-done e)
       go false e = rw (kept state piece e) (if-refused e)
 
-  pub decode_said : (state piece : List ℕ) → (decode W c state piece).said.answer ≡ tested state
-  decode_said state piece = either (λ (d : Decoded). d.said.answer ≡ tested state) state piece (λ e. refl) (λ e. refl)
+  pub decode_said : (state piece : List ℕ) → (decode W c state piece).said ≡ tested state
+  decode_said state piece = either (λ (d : Decoded). d.said ≡ tested state) state piece (λ e. refl) (λ e. refl)
 
-  full : (state : List ℕ) → is_done (tested state) ≡ true → length state ≡ c.order
+  full : (state : List ℕ) → is_ok (tested state) ≡ true → length state ≡ c.order
   full state passes = (coding_passed W c (length state) passes).1
 
-  decoded_length : (state piece : List ℕ) → is_done (tested state) ≡ true → length (decoded state piece).state ≡ length state
+  decoded_length : (state piece : List ℕ) → is_ok (tested state) ≡ true → length (decoded state piece).state ≡ length state
   decoded_length state piece passes =
       extending.length_state W c.order (prediction W c) state piece (full state passes) ∙ sym (full state passes)
 
@@ -67,12 +66,12 @@ module _ (W : ℕ) (c : Config) where
       let e = decode W c d.state more in
       left d.said e.state (d.piece ++ e.piece)
 
-  decoded_more : (state piece more : List ℕ) → is_done (tested state) ≡ true → decode W c state (piece ++ more) ≡ followed (decoded state piece) more
+  decoded_more : (state piece more : List ℕ) → is_ok (tested state) ≡ true → decode W c state (piece ++ more) ≡ followed (decoded state piece) more
   decoded_more state piece more e =
       let states = extending.state_more W c.order (prediction W c) state piece (full state e) more in
       let pieces = extending.decoded_more W c.order (prediction W c) state piece (full state e) more in
       rw (passed state (piece ++ more) e, passed (decoded state piece).state more (rw (decoded_length state piece e) e))
-      (λ i. done (tested state) (states i) (pieces i))
+      (λ i. left (tested state) (states i) (pieces i))
 
   pub decode_more : (state piece more : List ℕ) → decode W c state (piece ++ more) ≡ followed (decode W c state piece) more
   decode_more state piece more =
@@ -81,7 +80,7 @@ module _ (W : ℕ) (c : Config) where
 
   -- ---- calls in order
   pub answers_alike : (a : Answer) (state : List ℕ) (asked : List Asked) → AllFit c asked → tested state ≡ a
-      → Each (λ (d : Decoded). d.said.answer ≡ a) (decodings W c state asked)
+      → Each (λ (d : Decoded). d.said ≡ a) (decodings W c state asked)
   answers_alike a state [] fit said = tt
   answers_alike a state (b ∷ asked) fit said =
       rw (ways_agree W c b.way fit.0 state b.piece) (
@@ -111,7 +110,7 @@ module _ (W : ℕ) (c : Config) where
 
   -- ---- where the tests pass for a state of k samples
   module _ (passes : coding_refusal W c c.order ≡ Done) (state : List ℕ) (whole : length state ≡ c.order) (asked : List Asked) (fit : AllFit c asked) where
-    pub all_done : Each (λ (d : Decoded). d.said.answer ≡ Done) (decodings W c state asked)
+    pub all_done : Each (λ (d : Decoded). d.said ≡ Done) (decodings W c state asked)
     all_done = answers_alike Done state asked fit (rw whole passes)
 
     pub outputs_decoded : outputs (decodings W c state asked) ≡ decoded_piece W c.order (prediction W c) state (joined asked)

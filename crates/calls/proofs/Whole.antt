@@ -1,6 +1,7 @@
 -- Demand 3: the saved state and the residuals after the first k, cut in any way and decoded by ways that fit, give the samples back.
 -- First over any predictor with values below 2^W, in one go; then in the calls' own terms, also with the answers' numbers and with the
 -- state by value; then the refusals that encoding and decoding share. Assumes nothing.
+use Rattle.std.specs.Prelude.{Err, is_ok}
 use mathlib.Core.Path.{◌≡◌, refl, sym, ap, ◌∙◌}
 use mathlib.Core.Bool.{Bool, true, false, not, cond, ◌&&◌}
 use mathlib.Core.List.{List, ◌++◌}
@@ -13,9 +14,8 @@ use lib.Dec.{ltb, eqb}
 use lib.ListN.{length, take, drop, replicate, length-append}
 use lib.Pow.{pow_pos}
 use lib.Seq.{length-take-le, take-append_seam}
-use Rattle.kinds.specs.declared.Answer.{Answer}
-use Rattle.kinds.specs.declared.Answer.TheVariants.{Done, BadOrder, BadShift, Overflows, BadLength, TooFewSamples}
-use Rattle.kinds.specs.Answers.{number_of, refuse, is_done}
+use Rattle.kinds.specs.declared.Refusal.TheVariants.{BadOrder, BadShift, Overflows, BadLength, TooFewSamples}
+use Rattle.kinds.specs.Answers.{Answer, Done, answer_number, refuse}
 use Rattle.rule.specs.Configuration.{Config}
 use Rattle.rule.specs.Prediction.{admitted, settle, prediction}
 use Rattle.rule.specs.Coding.{encoded_buffer, decoded_piece, new_state}
@@ -28,7 +28,7 @@ use Rattle.calls.specs.Encode as encoding
 use Rattle.calls.specs.Decode as decoding
 use Rattle.calls.specs.ByValue.{padded, Held, encode_by_value}
 use Rattle.calls.specs.Pieces.{Asked, joined, decodings, outputs, final_state, Each, Fits, AllFit, numbered_decodings, numbered_outputs, numbered_state, held_decodings, held_outputs, final_array, final_count}
-use Rattle.calls.proofs.Leaving.{encode_said, encode_done}
+use Rattle.calls.proofs.Leaving.{zero_ok, encode_said, encode_done}
 use Rattle.calls.proofs.Undone.{undone}
 use Rattle.calls.proofs.Ways.{ways_agree}
 use Rattle.calls.proofs.Pieces.{decode_said, all_done, outputs_decoded, state_decoded}
@@ -48,22 +48,22 @@ unfolding prediction settle
 prediction_below W c window = mod-lt _ (pow_pos W)
 
 module _ (W : ℕ) (c : Config) (xs lent : List ℕ) where
-  passed : (encoding.encode W c xs lent).said.answer ≡ Done → is_done (encoding_refusal W c (length lent) (length xs)) ≡ true
-  passed said = ap is_done (sym (encode_said W c xs lent) ∙ said)
+  passed : (encoding.encode W c xs lent).said ≡ Done → is_ok (encoding_refusal W c (length lent) (length xs)) ≡ true
+  passed said = ap is_ok (sym (encode_said W c xs lent) ∙ said)
 
-  zero_done : (encoding.numbered (encoding.encode W c xs lent)).number ≡ 0 → (encoding.encode W c xs lent).said.answer ≡ Done
+  zero_done : (encoding.numbered (encoding.encode W c xs lent)).number ≡ 0 → (encoding.encode W c xs lent).said ≡ Done
   unfolding encoding_refusal
   zero_done zero =
-      let t = encoding_passed W c (length lent) (length xs) (ap is_done (sym (encode_said W c xs lent)) ∙ ap (λ (n : ℕ). eqb n 0) zero) in
+      let t = encoding_passed W c (length lent) (length xs) (ap is_ok (sym (encode_said W c xs lent)) ∙ zero_ok _ zero) in
       encode_said W c xs lent ∙ rw (ready_passes W c (length lent) t.0.0 t.0.1, le-ltb (length xs) c.order t.1)
 
   -- ---- the calls
   module _ (samples : Samples W xs) (asked : List Asked) (fit : AllFit c asked) where
-    pub whole : (encoding.encode W c xs lent).said.answer ≡ Done
+    pub whole : (encoding.encode W c xs lent).said ≡ Done
         → joined asked ≡ drop c.order (encoding.encode W c xs lent).samples
         → let e = encoding.encode W c xs lent in
         let ds = decodings W c e.state asked in
-        Each (λ (d : decoding.Decoded). d.said.answer ≡ Done) ds × (outputs ds ++ final_state e.state ds ≡ xs)
+        Each (λ (d : decoding.Decoded). d.said ≡ Done) ds × (outputs ds ++ final_state e.state ds ≡ xs)
     whole said cut =
         let k = c.order in
         let p = prediction W c in
@@ -90,7 +90,7 @@ module _ (W : ℕ) (c : Config) (xs lent : List ℕ) where
         (chains.numbers_zero W c state asked w.0, rw (chains.numbered_outputs_lem W c state asked, chains.numbered_state_lem W c state asked) w.1)
 
 -- ---- the state by value
-saved_few : (W : ℕ) (c : Config) (xs lent : List ℕ) → (encoding.encode W c xs lent).said.answer ≡ Done → length (encoding.encode W c xs lent).state ≤ 32
+saved_few : (W : ℕ) (c : Config) (xs lent : List ℕ) → (encoding.encode W c xs lent).said ≡ Done → length (encoding.encode W c xs lent).state ≤ 32
 saved_few W c xs lent said =
     let t = encoding_passed W c (length lent) (length xs) (passed W c xs lent said) in
     rw (← encode_done W c xs lent refl (passed W c xs lent said) refl refl, length-take-le c.order xs t.1) t.0.0.few
@@ -98,8 +98,8 @@ saved_few W c xs lent said =
 held_whole : (W : ℕ) (c : Config) (xs : List ℕ) (asked : List Asked) → AllFit c asked → (state : List ℕ) → length state ≤ 32
     → let ds = decodings W c state asked in
     let hs = held_decodings W c (padded state) (length state) asked in
-    Each (λ (d : decoding.Decoded). d.said.answer ≡ Done) ds × (outputs ds ++ final_state state ds ≡ xs)
-    → Each (λ (h : Held). h.said.answer ≡ Done) hs × (held_outputs hs ++ take (final_count (length state) hs) (final_array (padded state) hs) ≡ xs)
+    Each (λ (d : decoding.Decoded). d.said ≡ Done) ds × (outputs ds ++ final_state state ds ≡ xs)
+    → Each (λ (h : Held). h.said ≡ Done) hs × (held_outputs hs ++ take (final_count (length state) hs) (final_array (padded state) hs) ≡ xs)
 held_whole W c xs asked fit state few w =
     let n = length state in
     let front : take n (padded state) ≡ state = take-append_seam state (replicate (32 - n) 0) in
@@ -109,11 +109,11 @@ held_whole W c xs asked fit state few w =
     )
 
 pub whole_by_value : (W : ℕ) (c : Config) (xs : List ℕ) → Samples W xs → (asked : List Asked) → AllFit c asked
-    → (encode_by_value W c xs).said.answer ≡ Done
+    → (encode_by_value W c xs).said ≡ Done
     → joined asked ≡ drop c.order (encode_by_value W c xs).samples
     → let e = encode_by_value W c xs in
     let hs = held_decodings W c e.array e.count asked in
-    Each (λ (h : Held). h.said.answer ≡ Done) hs × (held_outputs hs ++ take (final_count e.count hs) (final_array e.array hs) ≡ xs)
+    Each (λ (h : Held). h.said ≡ Done) hs × (held_outputs hs ++ take (final_count e.count hs) (final_array e.array hs) ≡ xs)
 whole_by_value W c xs samples asked fit said cut =
     let lent : List ℕ = replicate c.order 0 in
     rw said
@@ -121,49 +121,49 @@ whole_by_value W c xs samples asked fit said cut =
 
 -- ---- the refusals: where a state is lent to encoding and one as long is given to decoding, decoding gives every answer of encoding's
 -- but 5, and is done where encoding answers 5
-coding_number : (W : ℕ) (c : Config) (n : ℕ) → number_of (coding_refusal W c n) ≤ 4
+coding_number : (W : ℕ) (c : Config) (n : ℕ) → answer_number (coding_refusal W c n) ≤ 4
 unfolding coding_refusal
 coding_number W c n =
     go (not (order_fits c.order)) (not (shift_fits W c.shift)) (not (eqb (length c.weights) c.order && eqb n c.order)) (not (admitted W c.bias c.weights))
   where
-    go : (q r s t : Bool) → number_of (refuse q BadOrder (refuse r BadShift (refuse s BadLength (refuse t Overflows Done)))) ≤ 4
+    go : (q r s t : Bool) → answer_number (refuse q BadOrder (refuse r BadShift (refuse s BadLength (refuse t Overflows Done)))) ≤ 4
     go true r s t = omega arith
     go false true s t = omega arith
     go false false true t = omega arith
     go false false false true = omega arith
     go false false false false = omega arith
 
-coding_done : (W : ℕ) (c : Config) (n : ℕ) → is_done (coding_refusal W c n) ≡ true → coding_refusal W c n ≡ Done
+coding_done : (W : ℕ) (c : Config) (n : ℕ) → is_ok (coding_refusal W c n) ≡ true → coding_refusal W c n ≡ Done
 coding_done W c n passes =
     let t = coding_passed W c n passes in
     ready_passes W c n t.0 t.1
 
 module _ (W : ℕ) (c : Config) (n m : ℕ) where
-  refusal_alike : (a : Answer) → number_of a ≢ 5 → encoding_refusal W c n m ≡ a → coding_refusal W c n ≡ a
+  refusal_alike : (a : Answer) → answer_number a ≢ 5 → encoding_refusal W c n m ≡ a → coding_refusal W c n ≡ a
   unfolding encoding_refusal
-  refusal_alike a other said = go (is_done (coding_refusal W c n)) (ltb m c.order) refl said
+  refusal_alike a other said = go (is_ok (coding_refusal W c n)) (ltb m c.order) refl said
     where
-      go : (t few : Bool) → is_done (coding_refusal W c n) ≡ t → cond t (refuse few TooFewSamples Done) (coding_refusal W c n) ≡ a → coding_refusal W c n ≡ a
-      go true true e said = absurd (other (sym (ap number_of said)))
+      go : (t few : Bool) → is_ok (coding_refusal W c n) ≡ t → cond t (refuse few TooFewSamples Done) (coding_refusal W c n) ≡ a → coding_refusal W c n ≡ a
+      go true true e said = absurd (other (sym (ap answer_number said)))
       go true false e said = coding_done W c n e ∙ said
       go false few e said = said
 
-  refusal_more : encoding_refusal W c n m ≡ TooFewSamples → coding_refusal W c n ≡ Done
+  refusal_more : encoding_refusal W c n m ≡ Err TooFewSamples → coding_refusal W c n ≡ Done
   unfolding encoding_refusal
-  refusal_more said = go (is_done (coding_refusal W c n)) refl said
+  refusal_more said = go (is_ok (coding_refusal W c n)) refl said
     where
-      go : (t : Bool) → is_done (coding_refusal W c n) ≡ t → cond t (refuse (ltb m c.order) TooFewSamples Done) (coding_refusal W c n) ≡ TooFewSamples
+      go : (t : Bool) → is_ok (coding_refusal W c n) ≡ t → cond t (refuse (ltb m c.order) TooFewSamples Done) (coding_refusal W c n) ≡ Err TooFewSamples
           → coding_refusal W c n ≡ Done
       go true e said = coding_done W c n e
-      go false e said = absurd (omega (arith, coding_number W c n, ap number_of said))
+      go false e said = absurd (omega (arith, coding_number W c n, ap answer_number said))
 
 module _ (W : ℕ) (c : Config) (xs lent : List ℕ) (way : Way) (fits : Fits c way) (state piece : List ℕ) (same : length state ≡ length lent) where
-  decoding_said : (decoding.decode_by way W c state piece).said.answer ≡ coding_refusal W c (length lent)
+  decoding_said : (decoding.decode_by way W c state piece).said ≡ coding_refusal W c (length lent)
   decoding_said = rw (ways_agree W c way fits state piece) (decode_said W c state piece ∙ ap (coding_refusal W c) same)
 
-  pub refused_alike : (a : Answer) → number_of a ≢ 5 → (encoding.encode W c xs lent).said.answer ≡ a
-      → (decoding.decode_by way W c state piece).said.answer ≡ a
+  pub refused_alike : (a : Answer) → answer_number a ≢ 5 → (encoding.encode W c xs lent).said ≡ a
+      → (decoding.decode_by way W c state piece).said ≡ a
   refused_alike a other said = decoding_said ∙ refusal_alike W c (length lent) (length xs) a other (sym (encode_said W c xs lent) ∙ said)
 
-  pub too_few_done : (encoding.encode W c xs lent).said.answer ≡ TooFewSamples → (decoding.decode_by way W c state piece).said.answer ≡ Done
+  pub too_few_done : (encoding.encode W c xs lent).said ≡ Err TooFewSamples → (decoding.decode_by way W c state piece).said ≡ Done
   too_few_done said = decoding_said ∙ refusal_more W c (length lent) (length xs) (sym (encode_said W c xs lent) ∙ said)

@@ -1,21 +1,19 @@
 -- The calls with the state by value: in the first `count` places of an array of 32.
 use Rattle.std.specs.Prelude.{cond, List, [], ◌++◌, ℕ, ◌-◌, leb, length, take, drop, replicate}
-use Rattle.kinds.specs.Answers.{number_of, when_done}
+use Rattle.kinds.specs.Answers.{Answer, answer_number, when_done}
 use Rattle.rule.specs.Configuration.{Config}
-use Rattle.calls.specs.declared.EncodeAnswer.{EncodeAnswer}
-use Rattle.calls.specs.declared.DecodeAnswer.{DecodeAnswer}
 use Rattle.calls.specs.declared.Way.{Way}
 use Rattle.calls.specs.Encode.{Encoded, encode}
 use Rattle.calls.specs.Decode.{Decoded, decode_by}
 
 -- ---- encoding: the saved state in its array, whose places past it are 0; beside a refusal none is saved
 pub record Saved : Type 0 where
-  pub said : EncodeAnswer
+  pub said : Answer
   pub samples : List ℕ
   pub array : List ℕ
   pub count : ℕ
 
-abbrev pub saved : EncodeAnswer → List ℕ → List ℕ → ℕ → Saved
+abbrev pub saved : Answer → List ℕ → List ℕ → ℕ → Saved
 saved said samples array count = record { said = said; samples = samples; array = array; count = count }
 
 abbrev pub padded : List ℕ → List ℕ
@@ -23,7 +21,7 @@ padded state = state ++ replicate (32 - length state) 0
 
 abbrev pub saved_of : Encoded → Saved
 saved_of e =
-    let state = when_done e.said.answer e.state [] in
+    let state = when_done e.said e.state [] in
     saved e.said e.samples (padded state) (length state)
 
 -- of a call that is lent k places for its state
@@ -40,22 +38,22 @@ abbrev pub handed : List ℕ → List ℕ → ℕ → Handed
 handed part state number = record { part = part; state = state; number = number }
 
 abbrev pub handed_of : ℕ → Encoded → Handed
-handed_of k e = handed (when_done e.said.answer (drop k e.samples) []) e.state (number_of e.said.answer)
+handed_of k e = handed (when_done e.said (drop k e.samples) []) e.state (answer_number e.said)
 
 abbrev pub begins : ℕ → Encoded → ℕ
-begins k e = when_done e.said.answer k (length e.samples)
+begins k e = when_done e.said k (length e.samples)
 
 -- ---- decoding: a count that no array of 32 has is a state of no samples; the places past the state are kept, and so is the count
 abbrev pub lent : ℕ → ℕ
 lent count = cond (leb count 32) count 0
 
 pub record Held : Type 0 where
-  pub said : DecodeAnswer
+  pub said : Answer
   pub array : List ℕ
   pub count : ℕ
   pub piece : List ℕ
 
-abbrev pub held : DecodeAnswer → List ℕ → ℕ → List ℕ → Held
+abbrev pub held : Answer → List ℕ → ℕ → List ℕ → Held
 held said array count piece = record { said = said; array = array; count = count; piece = piece }
 
 abbrev pub held_of : List ℕ → ℕ → Decoded → Held

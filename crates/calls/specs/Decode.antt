@@ -1,38 +1,30 @@
 -- A call of decoding: from the width, the configuration, and the lent state and piece, to all that the call leaves. The two ways differ
 -- in their refusals alone.
 use Rattle.std.specs.Prelude.{List, ℕ, length}
-use Rattle.kinds.specs.declared.Answer.{Answer}
-use Rattle.kinds.specs.Answers.{number_of, when_done}
+use Rattle.kinds.specs.Answers.{Answer, answer_number, when_done}
 use Rattle.rule.specs.Configuration.{Config}
 use Rattle.rule.specs.Prediction.{prediction}
 use Rattle.rule.specs.Coding.{decoded_piece, new_state}
 use Rattle.rule.specs.Refusals.{coding_refusal, order_six_refusal}
-use Rattle.calls.specs.declared.DecodeAnswer.{DecodeAnswer}
 use Rattle.calls.specs.declared.Way.{Way}
 use Rattle.calls.specs.declared.Way.TheVariants.{General, OrderSix}
 
 -- what a call says, and what it was lent, at its exit
 pub record Decoded : Type 0 where
-  pub said : DecodeAnswer
+  pub said : Answer
   pub state : List ℕ
   pub piece : List ℕ
 
-abbrev pub left : DecodeAnswer → List ℕ → List ℕ → Decoded
+abbrev pub left : Answer → List ℕ → List ℕ → Decoded
 left said state piece = record { said = said; state = state; piece = piece }
 
-abbrev pub done : Answer → List ℕ → List ℕ → Decoded
-done answer state piece = left (record { answer = answer }) state piece
-
--- what was lent stays as it was
-abbrev pub refused : Answer → List ℕ → List ℕ → Decoded
-refused answer state piece = left (record { answer = answer }) state piece
-
--- the samples from the state on take the piece's place, and the last k are the state for the piece that follows
+-- the samples from the state on take the piece's place, and the last k are the state for the piece that follows; beside a refusal all
+-- that was lent stays as it was
 unfoldable pub answered : Answer → ℕ → Config → List ℕ → List ℕ → Decoded
 answered answer W c state piece =
     when_done answer
-    (done answer (new_state W c.order (prediction W c) state piece) (decoded_piece W c.order (prediction W c) state piece))
-    (refused answer state piece)
+    (left answer (new_state W c.order (prediction W c) state piece) (decoded_piece W c.order (prediction W c) state piece))
+    (left answer state piece)
 
 abbrev pub refusal_by : Way → ℕ → Config → ℕ → Answer
 refusal_by General W c state = coding_refusal W c state
@@ -55,4 +47,4 @@ abbrev pub left_numbered : ℕ → List ℕ → List ℕ → Numbered
 left_numbered number state piece = record { number = number; state = state; piece = piece }
 
 abbrev pub numbered : Decoded → Numbered
-numbered d = left_numbered (number_of d.said.answer) d.state d.piece
+numbered d = left_numbered (answer_number d.said) d.state d.piece

@@ -1,6 +1,6 @@
 -- T1 to T12: twelve calls whose every number is given. The old weight stands first, and a buffer is shown whole.
 use Rattle.std.specs.Prelude.{◌≡◌, List, [], ◌∷◌, ℕ, ℤ, pos, negsuc, length, take, replicate}
-use Rattle.kinds.specs.declared.Answer.TheVariants.{Done}
+use Rattle.kinds.specs.Answers.{Done}
 use Rattle.rule.specs.Configuration.{Config}
 use Rattle.calls.specs.declared.Way.TheVariants.{OrderSix}
 use Rattle.calls.specs.Encode as encoding
@@ -21,7 +21,7 @@ pub record Encodes : Type 0 where
 abbrev pub IsEncoded : Encodes → Type 0
 IsEncoded t =
     encoding.encode t.W t.config t.samples (replicate t.config.order 0)
-    ≡ encoding.done Done t.buffer (take t.config.order t.samples)
+    ≡ encoding.left Done t.buffer (take t.config.order t.samples)
 
 -- T11 and T12: from this state this piece gives this output and the new state
 pub record Decodes : Type 0 where
@@ -33,7 +33,7 @@ pub record Decodes : Type 0 where
   pub after : List ℕ
 
 abbrev pub IsDecoded : Decodes → Type 0
-IsDecoded t = decoding.decode t.W t.config t.state t.piece ≡ decoding.done Done t.after t.output
+IsDecoded t = decoding.decode t.W t.config t.state t.piece ≡ decoding.left Done t.after t.output
 
 abbrev last : Config
 last = given (pos 1 ∷ []) (pos 0) 0
@@ -69,7 +69,7 @@ decodes =
 
 -- T11 goes the way of order 6 too
 abbrev pub IsDecodedAtSix : Decodes → Type 0
-IsDecodedAtSix t = decoding.decode_by OrderSix t.W t.config t.state t.piece ≡ decoding.done Done t.after t.output
+IsDecodedAtSix t = decoding.decode_by OrderSix t.W t.config t.state t.piece ≡ decoding.left Done t.after t.output
 
 abbrev pub Table : Type 0
 Table = Each IsEncoded encodes × Each IsDecoded decodes × Each IsDecodedAtSix (eleventh ∷ [])

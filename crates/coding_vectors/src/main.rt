@@ -7,12 +7,11 @@
 
 ghost use Rattle.std.specs.Prelude.{◌≤◌};
 
+use kinds::Width;
 use std::io;
 use trial::{Case, Way};
 
-mod coder_16;
-mod coder_32;
-mod coder_8;
+mod coder;
 mod saying;
 mod trial;
 
@@ -33,63 +32,58 @@ const WIDE: [i32; 33] = [
     -6017, 19418, 17480, -28012, 17682, 22615, 0,
 ];
 
+// Lengths around the ends of a chunk of 512 samples, of one with the order before it, and of several.
+const LENGTHS: [usize; 13] = [
+    511, 512, 513, 514, 543, 544, 545, 1023, 1024, 1055, 1056, 1537, 2016,
+];
+
 // A line for each way.
-fn run(rt: &impl Print, c: Case, weights: [i32; 33]) -> io::Result<()>
-    requires { (c.given ≤ 33) × (c.count ≤ 2048) }
-{
-    trial::run(rt, c, weights, Way::General)?;
-    trial::run(rt, c, weights, Way::User)
+fn run(rt: &impl Print, c: Case) -> io::Result<()> {
+    trial::run(rt, c, Way::General)?;
+    trial::run(rt, c, Way::User)
 }
 
 // One order and length at the three widths.
 fn at_widths(rt: &impl Print, order: usize, count: usize) -> io::Result<()>
     requires { (order ≤ 33) × (count ≤ 2048) }
 {
-    run(
-        rt,
-        Case {
-            width: 8,
-            order,
-            shift: 1,
-            bias: -100,
-            given: order,
-            count,
-        },
-        NARROW,
-    )?;
-    run(
-        rt,
-        Case {
-            width: 16,
-            order,
-            shift: 9,
-            bias: -70000,
-            given: order,
-            count,
-        },
-        MIDDLE,
-    )?;
-    run(
-        rt,
-        Case {
-            width: 32,
-            order,
-            shift: 15,
-            bias: 8000000000,
-            given: order,
-            count,
-        },
-        WIDE,
-    )
+    let eight = Case {
+        width: Width::Eight,
+        order,
+        shift: 1,
+        bias: -100,
+        weights: NARROW,
+        given: order,
+        count,
+    };
+    let sixteen = Case {
+        width: Width::Sixteen,
+        order,
+        shift: 9,
+        bias: -70000,
+        weights: MIDDLE,
+        given: order,
+        count,
+    };
+    let thirty_two = Case {
+        width: Width::ThirtyTwo,
+        order,
+        shift: 15,
+        bias: 8000000000,
+        weights: WIDE,
+        given: order,
+        count,
+    };
+    run(rt, eight)?;
+    run(rt, sixteen)?;
+    run(rt, thirty_two)
 }
 
 fn every_order(rt: &impl Print) -> io::Result<()> {
-    let mut order = 1;
-    while order < 33 {
+    for order in 1..33 {
         at_widths(rt, order, order)?;
         at_widths(rt, order, 511 + order)?;
         at_widths(rt, order, 1025)?;
-        order += 1;
     }
     Ok(())
 }
@@ -98,25 +92,16 @@ fn every_length(rt: &impl Print, order: usize) -> io::Result<()>
     requires { order ≤ 32 }
 {
     at_widths(rt, order, order + 1)?;
-    at_widths(rt, order, 511)?;
-    at_widths(rt, order, 512)?;
-    at_widths(rt, order, 513)?;
-    at_widths(rt, order, 514)?;
-    at_widths(rt, order, 543)?;
-    at_widths(rt, order, 544)?;
-    at_widths(rt, order, 545)?;
-    at_widths(rt, order, 1023)?;
-    at_widths(rt, order, 1024)?;
-    at_widths(rt, order, 1055)?;
-    at_widths(rt, order, 1056)?;
-    at_widths(rt, order, 1537)?;
-    at_widths(rt, order, 2016)
+    for count in LENGTHS {
+        at_widths(rt, order, count)?;
+    }
+    Ok(())
 }
 
 // The last weight, and one that stands for each before it.
 fn edge(
     rt: &impl Print,
-    width: u64,
+    width: Width,
     order: usize,
     shift: u32,
     bias: i64,
@@ -127,205 +112,83 @@ fn edge(
 {
     let mut weights = [before; 33];
     weights[order - 1] = last;
-    run(
-        rt,
-        Case {
-            width,
-            order,
-            shift,
-            bias,
-            given: order,
-            count: 600,
-        },
+    let case = Case {
+        width,
+        order,
+        shift,
+        bias,
         weights,
-    )
+        given: order,
+        count: 600,
+    };
+    run(rt, case)
+}
+
+// As many weights as are given, each the same.
+fn refused(
+    rt: &impl Print,
+    width: Width,
+    order: usize,
+    shift: u32,
+    bias: i64,
+    weight: i32,
+    given: usize,
+    count: usize,
+) -> io::Result<()>
+    requires { (given ≤ 33) × (count ≤ 2048) }
+{
+    let case = Case {
+        width,
+        order,
+        shift,
+        bias,
+        weights: [weight; 33],
+        given,
+        count,
+    };
+    run(rt, case)
 }
 
 // Shifts at both ends, sums at the accumulator's edges, sums below 0 and predictions that wrap.
 fn edges(rt: &impl Print) -> io::Result<()> {
-    edge(rt, 8, 1, 0, 127, 0, 128)?;
-    edge(rt, 8, 1, 0, 128, 0, 128)?;
-    edge(rt, 8, 1, 15, -127, 0, -128)?;
-    edge(rt, 8, 1, 0, -128, 0, -128)?;
-    edge(rt, 8, 1, 16, 0, 0, 1)?;
-    edge(rt, 8, 2, 0, 0, 64, 64)?;
-    edge(rt, 8, 2, 6, 0, -64, 128)?;
-    edge(rt, 8, 1, 0, -9223372036854775808, 0, 0)?;
-    edge(rt, 16, 1, 0, 32767, 0, 32768)?;
-    edge(rt, 16, 1, 0, 65535, 0, 32768)?;
-    edge(rt, 16, 1, 0, 0, 0, 32769)?;
-    edge(rt, 16, 1, 31, -65535, 0, -32767)?;
-    edge(rt, 16, 1, 32, 0, 0, 1)?;
-    edge(rt, 32, 1, 0, 0, 0, 2147483647)?;
-    edge(rt, 32, 1, 0, 2147483647, 0, -2147483648)?;
-    edge(rt, 32, 1, 0, 2147483648, 0, -2147483648)?;
-    edge(rt, 32, 1, 63, -9223372036854775807, 0, 0)?;
-    edge(rt, 32, 1, 0, -9223372036854775808, 0, 0)?;
-    edge(rt, 32, 1, 64, 0, 0, 1)?;
-    edge(rt, 32, 3, 0, 0, -2147483648, 2)?;
-    edge(rt, 32, 1, 0, 0, 0, 2)
+    edge(rt, Width::Eight, 1, 0, 127, 0, 128)?;
+    edge(rt, Width::Eight, 1, 0, 128, 0, 128)?;
+    edge(rt, Width::Eight, 1, 15, -127, 0, -128)?;
+    edge(rt, Width::Eight, 1, 0, -128, 0, -128)?;
+    edge(rt, Width::Eight, 1, 16, 0, 0, 1)?;
+    edge(rt, Width::Eight, 2, 0, 0, 64, 64)?;
+    edge(rt, Width::Eight, 2, 6, 0, -64, 128)?;
+    edge(rt, Width::Eight, 1, 0, i64::MIN, 0, 0)?;
+    edge(rt, Width::Sixteen, 1, 0, 32767, 0, 32768)?;
+    edge(rt, Width::Sixteen, 1, 0, 65535, 0, 32768)?;
+    edge(rt, Width::Sixteen, 1, 0, 0, 0, 32769)?;
+    edge(rt, Width::Sixteen, 1, 31, -65535, 0, -32767)?;
+    edge(rt, Width::Sixteen, 1, 32, 0, 0, 1)?;
+    edge(rt, Width::ThirtyTwo, 1, 0, 0, 0, i32::MAX)?;
+    edge(rt, Width::ThirtyTwo, 1, 0, 2147483647, 0, i32::MIN)?;
+    edge(rt, Width::ThirtyTwo, 1, 0, 2147483648, 0, i32::MIN)?;
+    edge(rt, Width::ThirtyTwo, 1, 63, -i64::MAX, 0, 0)?;
+    edge(rt, Width::ThirtyTwo, 1, 0, i64::MIN, 0, 0)?;
+    edge(rt, Width::ThirtyTwo, 1, 64, 0, 0, 1)?;
+    edge(rt, Width::ThirtyTwo, 3, 0, 0, i32::MIN, 2)?;
+    edge(rt, Width::ThirtyTwo, 1, 0, 0, 0, 2)
 }
 
 // One fault, and faults that meet: the first in the order 1, 2, 4, 3, 5 is told.
 fn refusals(rt: &impl Print) -> io::Result<()> {
-    let zeros = [0i32; 33];
-    let least = [-2147483648i32; 33];
-    run(
-        rt,
-        Case {
-            width: 16,
-            order: 0,
-            shift: 0,
-            bias: 0,
-            given: 0,
-            count: 5,
-        },
-        zeros,
-    )?;
-    run(
-        rt,
-        Case {
-            width: 16,
-            order: 33,
-            shift: 0,
-            bias: 0,
-            given: 33,
-            count: 50,
-        },
-        zeros,
-    )?;
-    run(
-        rt,
-        Case {
-            width: 16,
-            order: 33,
-            shift: 32,
-            bias: 0,
-            given: 1,
-            count: 5,
-        },
-        zeros,
-    )?;
-    run(
-        rt,
-        Case {
-            width: 16,
-            order: 2,
-            shift: 32,
-            bias: 0,
-            given: 1,
-            count: 1,
-        },
-        zeros,
-    )?;
-    run(
-        rt,
-        Case {
-            width: 16,
-            order: 2,
-            shift: 31,
-            bias: 0,
-            given: 1,
-            count: 1,
-        },
-        zeros,
-    )?;
-    run(
-        rt,
-        Case {
-            width: 16,
-            order: 2,
-            shift: 0,
-            bias: 0,
-            given: 3,
-            count: 1,
-        },
-        least,
-    )?;
-    run(
-        rt,
-        Case {
-            width: 16,
-            order: 2,
-            shift: 0,
-            bias: 0,
-            given: 2,
-            count: 1,
-        },
-        least,
-    )?;
-    run(
-        rt,
-        Case {
-            width: 16,
-            order: 2,
-            shift: 0,
-            bias: 0,
-            given: 2,
-            count: 1,
-        },
-        zeros,
-    )?;
-    run(
-        rt,
-        Case {
-            width: 16,
-            order: 2,
-            shift: 0,
-            bias: 0,
-            given: 2,
-            count: 0,
-        },
-        zeros,
-    )?;
-    run(
-        rt,
-        Case {
-            width: 16,
-            order: 2,
-            shift: 0,
-            bias: 0,
-            given: 2,
-            count: 2,
-        },
-        zeros,
-    )?;
-    run(
-        rt,
-        Case {
-            width: 32,
-            order: 32,
-            shift: 63,
-            bias: -9223372036854775808,
-            given: 32,
-            count: 100,
-        },
-        least,
-    )?;
-    run(
-        rt,
-        Case {
-            width: 32,
-            order: 32,
-            shift: 63,
-            bias: 0,
-            given: 32,
-            count: 31,
-        },
-        zeros,
-    )?;
-    run(
-        rt,
-        Case {
-            width: 8,
-            order: 32,
-            shift: 15,
-            bias: 0,
-            given: 32,
-            count: 32,
-        },
-        zeros,
-    )
+    refused(rt, Width::Sixteen, 0, 0, 0, 0, 0, 5)?;
+    refused(rt, Width::Sixteen, 33, 0, 0, 0, 33, 50)?;
+    refused(rt, Width::Sixteen, 33, 32, 0, 0, 1, 5)?;
+    refused(rt, Width::Sixteen, 2, 32, 0, 0, 1, 1)?;
+    refused(rt, Width::Sixteen, 2, 31, 0, 0, 1, 1)?;
+    refused(rt, Width::Sixteen, 2, 0, 0, i32::MIN, 3, 1)?;
+    refused(rt, Width::Sixteen, 2, 0, 0, i32::MIN, 2, 1)?;
+    refused(rt, Width::Sixteen, 2, 0, 0, 0, 2, 1)?;
+    refused(rt, Width::Sixteen, 2, 0, 0, 0, 2, 0)?;
+    refused(rt, Width::Sixteen, 2, 0, 0, 0, 2, 2)?;
+    refused(rt, Width::ThirtyTwo, 32, 63, i64::MIN, i32::MIN, 32, 100)?;
+    refused(rt, Width::ThirtyTwo, 32, 63, 0, 0, 32, 31)?;
+    refused(rt, Width::Eight, 32, 15, 0, 0, 32, 32)
 }
 
 fn main(rt: HostRuntime) -> io::Result<()> {

@@ -1,27 +1,14 @@
--- Batches: how a batch takes the state over and hands it back, and the loop that goes from batch to batch with the state between them.
+-- Batches: the loop that goes from batch to batch with the state between them.
 -- Over the width W, the order k and any predictor p. Assumes nothing.
 use mathlib.Core.Path.{◌≡◌, refl, sym, ap, ◌∙◌}
 use mathlib.Core.List.{List, ◌++◌, append_assoc, append-nil}
 use Prim.Native.Nat.{ℕ, ◌+◌, ◌-◌, ◌≤◌}
 use native.Mathlib.Omega.{arith}
-use lib.ListN.{length, take, drop, length-append, length-drop, drop_of_length-le, take-append-drop}
+use lib.ListN.{length, take, drop, length-append, drop_of_length-le, take-append-drop}
 use lib.Seq.{take_at, drop_at, take_all, length-take-le, take-add, drop-drop}
 use borrow.Rule.Slice.PartMut.{put_mid}
-use Rattle.slices.proofs.Copying.{replaced}
 use Rattle.rule.specs.Coding.{decoded_piece, new_state}
 use Rattle.rule.proofs.Extending as extending
-
--- ---- a batch: the state is copied to the front of the array r, as r1, and the last samples are copied back from it
-pub known : {k : ℕ} (state r r1 : List ℕ) → length state ≡ k → r1 ≡ state ++ drop (length state) r → take k r1 ≡ state
-known {k} state r r1 full e = rw e (take_at state (drop (length state) r) k full)
-
-pub handed_back_lem : {k : ℕ} (count : ℕ) (state r next : List ℕ) → length state ≡ k → k + count ≤ length r
-    → next ≡ take (count + length state - count) (drop count r) ++ drop (length (take (count + length state - count) (drop count r))) state
-    → next ≡ take k (drop count r)
-handed_back_lem {k} count state r next full room e =
-    let whole : count + length state - count ≡ k = omega (arith, full) in
-    let long : length (take k (drop count r)) ≡ k = length-take-le k (drop count r) (rw length-drop (omega arith)) in
-    e ∙ rw (whole, replaced (take k (drop count r)) state (omega (arith, long, full)))
 
 -- ---- the loop over batches, from state₀ and residuals₀: the outputs of the residuals before `start`, and then the residuals
 pub record Going (W k : ℕ) (p : List ℕ → ℕ) (state₀ residuals₀ state residuals : List ℕ) (start : ℕ) : Type 0 where

@@ -9,12 +9,11 @@ use borrow.Author.Tests.{leb-true, leb-false, ne_eqb}
 use lib.Dec.{leb, eqb}
 use lib.ListN.{length, take, drop}
 use lib.Seq.{length-take-le}
-use Rattle.kinds.specs.declared.Answer.TheVariants.{BadOrder}
-use Rattle.kinds.specs.Answers.{refuse}
+use Rattle.kinds.specs.declared.Refusal.TheVariants.{BadOrder}
+use Rattle.kinds.specs.Answers.{Answer, refuse}
 use Rattle.rule.specs.Configuration.{Config}
 use Rattle.rule.specs.Refusals.{order_fits, coding_refusal, order_six_refusal}
 use Rattle.rule.proofs.Passing.{order_few}
-use Rattle.calls.specs.declared.DecodeAnswer.{DecodeAnswer}
 use Rattle.calls.specs.declared.Way.{Way}
 use Rattle.calls.specs.declared.Way.TheVariants.{General, OrderSix}
 use Rattle.calls.specs.Decode.{left, refusal_by, decode_by}
@@ -35,7 +34,7 @@ module _ (count : ℕ) {n : ℕ} (n-is : n ≡ lent count) (array : List ℕ) (f
   pub lent_long : length (take n array) ≡ n
   lent_long = length-take-le n array lent_inside
 
-  pub held_left : (way : Way) (W : ℕ) (c : Config) (piece : List ℕ) {said : DecodeAnswer} {next out : List ℕ} → length next ≡ n
+  pub held_left : (way : Way) (W : ℕ) (c : Config) (piece : List ℕ) {said : Answer} {next out : List ℕ} → length next ≡ n
       → left said next out ≡ decode_by way W c (take n array) piece → held said (next ++ drop n array) count out ≡ decode_by_value way W c array count piece
   held_left way W c piece {said} {next} {out} long h =
       ap (λ (i : ℕ). held said (next ++ drop i array) count out) (sym long)

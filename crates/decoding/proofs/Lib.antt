@@ -3,4 +3,9 @@ pub mod Choosing
 pub mod Lending
 pub mod Batches
 pub mod Turning
+pub mod Turns
 pub mod Residuals
+pub mod Toggled
+pub mod Running
+pub mod RunningTurns
+pub mod Room

@@ -6,12 +6,9 @@ use Prim.Native.Nat.{ℕ, zero, suc, ◌+◌, ◌-◌, ◌%◌, ◌^◌, ◌≤�
 use native.Mathlib.Nat.{not-suc-le-zero}
 use native.Mathlib.Numerals.{add-one}
 use native.Mathlib.Omega.{arith}
-use lib.ListN.{length, get_or, take, drop, set, length-set, length-map, length-take, length-drop}
+use lib.ListN.{length, get_or, take, drop, set, length-set, length-map, length-drop}
 use lib.Seq.{get_or-take, get_or-drop, drop-cons, drop-set-add, take-suc-set, length-take-le}
-use Rattle.rule.specs.Configuration.{Config}
-use Rattle.rule.specs.Prediction.{prediction}
 use Rattle.rule.specs.Coding.{toggled, decoded_piece, new_state}
-use Rattle.decoding.specs.Steps.{Decodes}
 use Rattle.decoding.proofs.Batches as batches
 use Rattle.decoding.proofs.Turning as turning
 
@@ -28,20 +25,11 @@ oldest k l i some =
     let e : i + 0 ≡ i = omega arith in
     get_or-take k (drop i l) 0 0 some ∙ get_or-drop i l 0 0 ∙ ap (λ (n : ℕ). get_or l n 0) e
 
--- a residual less is left as one is written
-pub less : (l : List ℕ) (i v : ℕ) → i < length l → length (set l i v) - (i + 1) < length l - i
-less l i v within = rw (length-set l i v) (omega arith)
-
 -- the part between i and i + k, which the prediction is made from
-pub part_long : (k : ℕ) (l : List ℕ) (i : ℕ) → i + k ≤ length l → length (take (i + k - i) (drop i l)) ≡ k
+pub part_long : {A : Type 0} (k : ℕ) (l : List A) (i : ℕ) → i + k ≤ length l → length (take (i + k - i) (drop i l)) ≡ k
 part_long k l i inside =
     let whole : i + k - i ≡ k = omega arith in
     rw whole (length-take-le k (drop i l) (rw length-drop (omega arith)))
-
-pub part_short : (k : ℕ) (l : List ℕ) (i : ℕ) → length (take (i + k - i) (drop i l)) ≤ k
-part_short k l i =
-    let whole : i + k - i ≡ k = omega arith in
-    rw (whole, length-take) (omega arith)
 
 -- the loop's invariant, from the samples s₀ and the residuals l₀
 pub record Holds (W k : ℕ) (p : List ℕ → ℕ) (s₀ l₀ s l : List ℕ) (i : ℕ) : Type 0 where
@@ -75,13 +63,3 @@ module _ (W k : ℕ) (p : List ℕ → ℕ) (some : 1 ≤ k) (s₀ l₀ : List �
         let t = batches.ended W k p (take k s₀) (map (toggled W) l₀) full₀ h.going (omega (arith, turning.mixed_long W i l)) in
         let e : i ≡ length l₀ = omega (arith, h.same, h.going.within, length-map l₀ (toggled W)) in
         (sym (turning.mixed_all W i l past) ∙ t.0, rw (← e) t.1)
-
--- what the loop leaves, in the terms of the batch that it decodes
-pub left : {W : ℕ} {c c' : Config} {from from' residuals residuals' outputs last next : List ℕ}
-    → c ≡ c' → from ≡ from' → residuals ≡ residuals' → next ≡ last
-    → Decodes W c from residuals outputs last → Decodes W c' from' residuals' outputs next
-left {W} e f g h d =
-    record {
-      outputs_are = d.outputs_are ∙ λ i. decoded_piece W (e i).order (prediction W (e i)) (f i) (g i);
-      next_is = h ∙ d.next_is ∙ λ i. new_state W (e i).order (prediction W (e i)) (f i) (g i);
-    }

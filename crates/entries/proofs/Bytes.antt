@@ -3,7 +3,7 @@
 use mathlib.Core.Path.{◌≡◌, refl, ap, ap₂, ◌∙◌}
 use mathlib.Core.List.{List, [], ◌∷◌, ◌++◌}
 use Prim.Native.Nat.{ℕ, zero, suc, ◌+◌, ◌*◌, ◌/◌, ◌%◌, ◌^◌, ◌≤◌, ◌<◌}
-use native.Mathlib.Nat.{pow-suc, pow-le-pow_right, mod-add-div, div-lt_iff_lt-mul}
+use native.Mathlib.Nat.{pow-suc, pow-le-pow_right, mod-add-div, mod-eq_of_lt, div-lt_iff_lt-mul}
 use native.Mathlib.Omega.{arith}
 use lib.ListN.{length, get_or, take, drop, length-append, length-take, length-drop}
 use lib.Seq.{take_at, drop_at, length-take-le, get_or-drop}
@@ -43,6 +43,10 @@ entry_below n at bytes h =
     let few : length (take n (drop at bytes)) ≤ n = simp length-take (omega arith) in
     let most : 256 ^ length (take n (drop at bytes)) ≤ 256 ^ n = pow-le-pow_right (omega arith) few in
     omega (arith, value_below (take n (drop at bytes)) (take_bytes n (drop_bytes at h)))
+
+-- and nothing of it is cut off by the bits of its bytes
+pub entry_whole : (n W at : ℕ) (bytes : List ℕ) → 256 ^ n ≡ 2 ^ W → Bytes bytes → entry_at n bytes at % 2 ^ W ≡ entry_at n bytes at
+entry_whole n W at bytes bits h = mod-eq_of_lt (rw (← bits) (entry_below n at bytes h))
 
 -- ---- a number, its bytes, and the number again
 pub value_of_bytes : (n v : ℕ) → v < 256 ^ n → value_of (bytes_of n v) ≡ v

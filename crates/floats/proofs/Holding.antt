@@ -10,19 +10,19 @@ use lib.Ieee.Fits.{and_r}
 use lib.Ieee.Scale.{finite}
 use lib.Signed.{mag}
 use Rattle.floats.specs.Integers.{in_bits, holds, held}
-use Rattle.floats.specs.declared.rounding.Integer.TheVariants.{At, Outside}
+use Rattle.std.specs.Prelude.{Some, None}
 
 pub record Handed (bits : ℕ) (x : Float) (z v : ℤ) : Type 0 where
   pub is : v ≡ z
   pub fits : holds bits x z ≡ true
 
-pub handed : (bits : ℕ) (x : Float) (z v : ℤ) → At v ≡ held bits x z → Handed bits x z v
+pub handed : (bits : ℕ) (x : Float) (z v : ℤ) → Some v ≡ held bits x z → Handed bits x z v
 unfolding held
 handed bits x z v h =
     let both = go (holds bits x z) h in
     record { is = both.0; fits = both.1 }
   where
-    go : (b : Bool) → At v ≡ cond b (At z) Outside → (v ≡ z) × (b ≡ true)
+    go : (b : Bool) → Some v ≡ cond b (Some z) None → (v ≡ z) × (b ≡ true)
     go true h = ((cc), refl)
     go false h =
         let clash : ◌≡◌ {A = ℕ} 0 1 = cc in
@@ -31,11 +31,11 @@ handed bits x z v h =
         none : ◌≡◌ {A = ℕ} 0 1 → ⊥
         none e = omega arith
 
-pub outside : (bits : ℕ) (x : Float) (z : ℤ) → Outside ≡ held bits x z → holds bits x z ≡ false
+pub outside : (bits : ℕ) (x : Float) (z : ℤ) → None ≡ held bits x z → holds bits x z ≡ false
 unfolding held
 outside bits x z h = go (holds bits x z) h
   where
-    go : (b : Bool) → Outside ≡ cond b (At z) Outside → b ≡ false
+    go : (b : Bool) → None ≡ cond b (Some z) None → b ≡ false
     go true h =
         let clash : ◌≡◌ {A = ℕ} 0 1 = cc in
         absurd (none clash)

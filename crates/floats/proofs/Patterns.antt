@@ -1,101 +1,73 @@
--- A float that equals itself is no NaN, and then its bit pattern says the rest: the exponent field whether it is finite, and the pattern without the sign bit its magnitude.
+-- The bit pattern of a magnitude: it has no sign bit, so that its quotient by 2 ^ 52 is the exponent field.
 use mathlib.Core.Path.{◌≡◌, refl, sym, ap, ◌∙◌, subst}
-use mathlib.Core.Bool.{Bool, true, false, not, cond}
-use Prim.Native.Nat.{ℕ, zero, suc, ◌+◌, ◌/◌, ◌%◌, ◌^◌}
-use native.Mathlib.Nat.{mod-lt}
+use mathlib.Core.Bool.{Bool, true, false, not}
+use Prim.Native.Nat.{ℕ, zero, suc, ◌+◌, ◌-◌, ◌*◌, ◌/◌, ◌%◌, ◌^◌, ◌<◌}
+use native.Mathlib.Nat.{mod-eq_of_lt}
 use native.Mathlib.Omega.{arith}
 use borrow.Author.Tests.{lt-leb}
-use lib.Dec.{T, leb, eqb}
-use lib.Pow.{pow_pos}
-use lib.Ieee.{Float, nan, inf, fin, binary64, eq, ne, is_nan, of_bits, of_fields, to_bits, nan_bits, odd, fits}
-use lib.Ieee.Bits.{of_bits-to_bits, nan_bits_is}
-use lib.Ieee.Compare.{differs_from_itself}
+use lib.Dec.{T}
+use lib.Ieee.{Float, nan, inf, fin, binary64, of_bits, of_fields, to_bits, is_nan, fits, up, down, size}
+use lib.Ieee.Bits.{of_bits-to_bits, to_bits-lt}
 use lib.Ieee.Scale.{finite}
+use Rattle.std.specs.Float.{float_is_finite, float_with_sign}
 use Rattle.floats.specs.Values.{magnitude}
 
 pub yes : {b : Bool} → b ≡ true → T b
 yes h = subst T (sym h) tt
 
-no : {b : Bool} → b ≡ false → T (not b)
-no h = subst (λ (a : Bool). T (not a)) (sym h) tt
+-- the library's test is the logic's
+pub finite_is : (x : Float) → float_is_finite x ≡ finite x
+unfolding float_is_finite
+finite_is nan = refl
+finite_is (inf s) = refl
+finite_is (fin s m e) = refl
 
-pub self_equal : (x : Float) → eq x x ≡ true → T (not (is_nan x))
-unfolding eq is_nan
-self_equal nan h = absurd (yes h)
-self_equal (inf s) h = tt
-self_equal (fin s m e) h = tt
+pub finite_no_nan : (x : Float) → T (finite x) → T (not (is_nan x))
+unfolding is_nan
+finite_no_nan nan p = absurd p
+finite_no_nan (inf s) p = absurd p
+finite_no_nan (fin s m e) p = tt
 
-pub self_unequal : (x : Float) → eq x x ≡ false → x ≡ nan
-unfolding ne
-self_unequal x h = differs_from_itself x (no h)
+-- ---- with another sign
+pub sign_finite : (t : Bool) (x : Float) → T (finite x) → T (finite (float_with_sign t x))
+unfolding float_with_sign
+sign_finite t nan p = p
+sign_finite t (inf s) p = p
+sign_finite t (fin s m e) p = p
 
--- ---- by fields
-pub fields : (b : ℕ) → of_bits binary64 b ≡ of_fields binary64 (leb (2 ^ 63) b) (b % 2 ^ 63 / 2 ^ 52) (b % 2 ^ 52)
-unfolding of_bits
-fields b = refl
+sign_fits : (t : Bool) (x : Float) → T (fits binary64 x) → T (fits binary64 (float_with_sign t x))
+unfolding float_with_sign fits
+sign_fits t nan p = p
+sign_fits t (inf s) p = p
+sign_fits t (fin s zero e) p = p
+sign_fits t (fin s (suc m) e) p = p
 
-odd_finite : (d : ℕ) (s : Bool) (q k l : ℕ) → finite (odd d s q k l) ≡ true
-unfolding odd
-odd_finite d s zero k l = refl
-odd_finite d s (suc q) k l = refl
-
-odd_magnitude : (d : ℕ) (s : Bool) (q k l : ℕ) → odd d false q k l ≡ magnitude (odd d s q k l)
-unfolding odd magnitude
-odd_magnitude d s zero k l = refl
-odd_magnitude d s (suc q) k l = refl
-
-fields_finite : (s : Bool) (field low : ℕ) → not (eqb field 2047) ≡ finite (of_fields binary64 s field low)
-unfolding of_fields
-fields_finite s zero low = sym (odd_finite 53 s low 0 1074)
-fields_finite s (suc j) low = go (eqb (suc j) 2047) (eqb low 0)
+-- with a minus the pattern is 2 ^ 63 more, and that still fits 64 bits
+small : (x : Float) → T (finite x) → to_bits binary64 (float_with_sign true x) < 2 ^ 64 → to_bits binary64 (magnitude x) < 2 ^ 63
+unfolding float_with_sign to_bits
+small nan p h = absurd p
+small (inf s) p h = absurd p
+small (fin s m e) p h =
+    let n = m * up e * 2 ^ 1074 / down e in
+    let k = size n - 53 in
+    less (k * 2 ^ 52) (n / 2 ^ k) h
   where
-    go : (last none : Bool) → not last ≡ finite (cond last (cond none (inf s) nan) (odd 53 s (2 ^ 52 + low) j 1074))
-    go true true = refl
-    go true false = refl
-    go false none = sym (odd_finite 53 s (2 ^ 52 + low) j 1074)
+    less : (a b : ℕ) → 9223372036854775808 + a + b < 18446744073709551616 → 0 + a + b < 9223372036854775808
+    less a b h = omega arith
 
-fields_magnitude : (s : Bool) (field low : ℕ) → of_fields binary64 false field low ≡ magnitude (of_fields binary64 s field low)
-unfolding of_fields magnitude
-fields_magnitude s zero low = odd_magnitude 53 s low 0 1074
-fields_magnitude s (suc j) low = go (eqb (suc j) 2047) (eqb low 0)
-  where
-    go : (last none : Bool) → cond last (cond none (inf false) nan) (odd 53 false (2 ^ 52 + low) j 1074) ≡ magnitude (cond last (cond none (inf s) nan) (odd 53 s (2 ^ 52 + low) j 1074))
-    go true true = refl
-    go true false = refl
-    go false none = odd_magnitude 53 s (2 ^ 52 + low) j 1074
+module _ (x : Float) (held : T (fits binary64 x)) (p : T (finite x)) where
+  abbrev pub b : ℕ
+  b = to_bits binary64 (magnitude x)
 
--- ---- the pattern without the sign bit has no sign, and the same fields
-cleared : (b : ℕ) → of_bits binary64 (b % 2 ^ 63) ≡ of_fields binary64 false (b % 2 ^ 63 / 2 ^ 52) (b % 2 ^ 52)
-cleared b =
-    fields (b % 2 ^ 63)
-    ∙ ap (λ (s : Bool). of_fields binary64 s (b % 2 ^ 63 % 2 ^ 63 / 2 ^ 52) (b % 2 ^ 63 % 2 ^ 52)) (lt-leb (2 ^ 63) (b % 2 ^ 63) (mod-lt b (pow_pos 63)))
-    ∙ ap (λ (n : ℕ). of_fields binary64 false (n / 2 ^ 52) (b % 2 ^ 63 % 2 ^ 52)) (twice b)
-    ∙ ap (λ (n : ℕ). of_fields binary64 false (b % 2 ^ 63 / 2 ^ 52) n) (lower b)
-  where
-    twice : (b : ℕ) → b % 9223372036854775808 % 9223372036854775808 ≡ b % 9223372036854775808
-    twice b = omega arith
+  pub magnitude_no_nan : T (not (is_nan (magnitude x)))
+  magnitude_no_nan = finite_no_nan (magnitude x) (sign_finite false x p)
 
-    lower : (b : ℕ) → b % 9223372036854775808 % 4503599627370496 ≡ b % 4503599627370496
-    lower b = omega arith
+  pub pattern_small : b < 2 ^ 63
+  pattern_small = small x p (to_bits-lt binary64 (float_with_sign true x) (sign_fits true x held))
 
-module _ (x : Float) (held : T (fits binary64 x)) where
-  abbrev b : ℕ
-  b = to_bits binary64 x
-
-  pub by_fields : of_fields binary64 (leb (2 ^ 63) b) (b % 2 ^ 63 / 2 ^ 52) (b % 2 ^ 52) ≡ x
-  by_fields = sym (fields b) ∙ of_bits-to_bits binary64 x held
-
-  pub finite_by_field : not (eqb (b % 2 ^ 63 / 2 ^ 52) 2047) ≡ finite x
-  finite_by_field = fields_finite (leb (2 ^ 63) b) (b % 2 ^ 63 / 2 ^ 52) (b % 2 ^ 52) ∙ ap finite by_fields
-
-  pub magnitude_cleared : of_bits binary64 (b % 2 ^ 63) ≡ magnitude x
-  magnitude_cleared = cleared b ∙ fields_magnitude (leb (2 ^ 63) b) (b % 2 ^ 63 / 2 ^ 52) (b % 2 ^ 52) ∙ ap magnitude by_fields
-
-  pub cleared_no_nan : T (not (is_nan x)) → T (not (nan_bits binary64 (b % 2 ^ 63)))
-  unfolding is_nan magnitude
-  cleared_no_nan h = subst (λ (t : Bool). T (not t)) (sym (nan_bits_is binary64 (b % 2 ^ 63) ∙ ap is_nan magnitude_cleared)) (same x h)
-    where
-      same : (x : Float) → T (not (is_nan x)) → T (not (is_nan (magnitude x)))
-      same nan h = h
-      same (inf s) h = h
-      same (fin s m e) h = h
+  pub by_fields : of_fields binary64 false (b / 2 ^ 52) (b % 2 ^ 52) ≡ magnitude x
+  unfolding of_bits
+  by_fields =
+      ap (λ (n : ℕ). of_fields binary64 false (n / 2 ^ 52) (b % 2 ^ 52)) (sym (mod-eq_of_lt pattern_small))
+      ∙ ap (λ (s : Bool). of_fields binary64 s (b % 2 ^ 63 / 2 ^ 52) (b % 2 ^ 52)) (sym (lt-leb (2 ^ 63) b pattern_small))
+      ∙ of_bits-to_bits binary64 (magnitude x) (sign_fits false x held)

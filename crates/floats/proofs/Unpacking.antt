@@ -4,21 +4,16 @@ use mathlib.Core.Bool.{Bool, true, false, not, cond}
 use Prim.Native.Nat.{ℕ, zero, suc, ◌+◌, ◌-◌, ◌*◌, ◌/◌, ◌%◌, ◌^◌, ◌≤◌, ◌<◌}
 use native.Mathlib.Nat.{mod-lt, lt_irrefl, le_trans, le_of_eq, le_antisymm, le_of_suc-le-suc, lt_of_not-le, lt_of_le_of_lt, mul-le-mul_right, eq_of_mul-eq-mul_right}
 use native.Mathlib.Omega.{arith}
-use lib.Dec.{T, leb, eqb, eqb→eq}
+use lib.Dec.{T, eqb, eqb→eq}
 use lib.Pow.{pow_pos, pow-add, pow_mono, shl_lt}
-use lib.Ieee.{Float, nan, inf, fin, binary64, of_fields, to_bits, odd, is_nan, fits}
+use lib.Ieee.{Float, nan, inf, fin, binary64, of_fields, to_bits, odd, fits}
 use lib.Ieee.Fits.{eq→eqb}
 use lib.Ieee.Exact.{HasValue, odd_sign}
 use lib.Ieee.Scale.{finite}
 use lib.Ieee.Positive.{num, den, den_pos}
-use Rattle.floats.specs.Values.{Digits, Unpacked, is_negative}
-use Rattle.floats.proofs.Patterns.{by_fields}
-
-pub finite_no_nan : (x : Float) → T (finite x) → T (not (is_nan x))
-unfolding is_nan
-finite_no_nan nan p = absurd p
-finite_no_nan (inf s) p = absurd p
-finite_no_nan (fin s m e) p = tt
+use Rattle.std.specs.Float.{float_with_sign, is_sign_negative}
+use Rattle.floats.specs.Values.{magnitude, Digits, Unpacked, is_negative}
+use Rattle.floats.proofs.Patterns.{sign_finite, pattern_small, by_fields}
 
 -- ---- what a value says of a float
 pub value_finite : (x : Float) (s : Bool) (a c : ℕ) → HasValue x s a c → finite x ≡ true
@@ -41,8 +36,8 @@ value_size (fin t m e) s a c v = v.1
 low_lt : (b : ℕ) → b % 4503599627370496 < 4503599627370496
 low_lt b = mod-lt b (pow_pos 52)
 
-field_lt : (b : ℕ) → b % 9223372036854775808 / 4503599627370496 < 2048
-field_lt b = omega arith
+field_lt : (b : ℕ) → b < 9223372036854775808 → b / 4503599627370496 < 2048
+field_lt b h = omega arith
 
 unpacked_first : (s : Bool) (low : ℕ) → low < 2 ^ 52 → Unpacked (of_fields binary64 s 0 low) s low 0
 unfolding of_fields
@@ -73,35 +68,40 @@ unpacked_later s j low b h p =
         out : (suc j ≡ 2047 → ⊥) → j ≤ 2045
         out f = omega arith
 
+-- a magnitude's parts with the float's sign
+with_its_sign : (x : Float) (q k : ℕ) → T (finite x) → Unpacked (magnitude x) false q k → Unpacked x (is_sign_negative x) q k
+unfolding float_with_sign is_sign_negative
+with_its_sign nan q k p u = absurd p
+with_its_sign (inf s) q k p u = absurd p
+with_its_sign (fin s m e) q k p u = record { value = (refl, u.value.1); held = u.held; bound = u.bound }
+
 module _ (x : Float) (F : T (fits binary64 x)) (p : T (finite x)) where
   abbrev b : ℕ
-  b = to_bits binary64 x
+  b = to_bits binary64 (magnitude x)
 
   abbrev field : ℕ
-  field = b % 2 ^ 63 / 2 ^ 52
+  field = b / 2 ^ 52
 
   abbrev low : ℕ
   low = b % 2 ^ 52
 
-  abbrev sign : Bool
-  sign = leb (2 ^ 63) b
-
-  pub unpacked_at_first : field ≡ 0 → Unpacked x sign low 0
+  pub unpacked_at_first : field ≡ 0 → Unpacked x (is_sign_negative x) low 0
   unpacked_at_first e =
-      subst (λ (k : Float). Unpacked k sign low 0) (ap (λ (k : ℕ). of_fields binary64 sign k low) (sym e) ∙ by_fields x F)
-      (unpacked_first sign low (low_lt b))
+      with_its_sign x low 0 p
+      (subst (λ (k : Float). Unpacked k false low 0) (ap (λ (k : ℕ). of_fields binary64 false k low) (sym e) ∙ by_fields x F p)
+      (unpacked_first false low (low_lt b)))
 
-  pub unpacked_at_later : (field ≡ 0 → ⊥) → Unpacked x sign (2 ^ 52 + low) (field - 1)
-  unpacked_at_later n = go field (field_lt b) (by_fields x F) n
+  pub unpacked_at_later : (field ≡ 0 → ⊥) → Unpacked x (is_sign_negative x) (2 ^ 52 + low) (field - 1)
+  unpacked_at_later n = with_its_sign x (2 ^ 52 + low) (field - 1) p (go field (field_lt b (pattern_small x F p)) (by_fields x F p) n)
     where
       less : (j : ℕ) → j ≡ suc j - 1
       less j = omega arith
 
-      go : (f : ℕ) → f < 2048 → of_fields binary64 sign f low ≡ x → (f ≡ 0 → ⊥) → Unpacked x sign (2 ^ 52 + low) (f - 1)
+      go : (f : ℕ) → f < 2048 → of_fields binary64 false f low ≡ magnitude x → (f ≡ 0 → ⊥) → Unpacked (magnitude x) false (2 ^ 52 + low) (f - 1)
       go zero l e n = absurd (n refl)
       go (suc j) l e n =
-          subst (λ (k : ℕ). Unpacked x sign (2 ^ 52 + low) k) (less j)
-          (subst (λ (k : Float). Unpacked k sign (2 ^ 52 + low) j) e (unpacked_later sign j low l (low_lt b) (subst (λ (k : Float). T (finite k)) (sym e) p)))
+          subst (λ (k : ℕ). Unpacked (magnitude x) false (2 ^ 52 + low) k) (less j)
+          (subst (λ (k : Float). Unpacked k false (2 ^ 52 + low) j) e (unpacked_later false j low l (low_lt b) (subst (λ (k : Float). T (finite k)) (sym e) (sign_finite false x p))))
 
 -- ---- and they are the only parts of it: digits that are shifted have their leading one, so no other shift gives that size
 shift_least : (p q k l : ℕ) → Digits p k → Digits q l → p * 2 ^ k ≡ q * 2 ^ l → l ≤ k
@@ -132,9 +132,12 @@ pub record Packed (x : Float) : Type 0 where
   pub shift : ℕ
   pub parts : Unpacked x negative digits shift
 
+abbrev field_of : Float → ℕ
+field_of x = to_bits binary64 (magnitude x) / 2 ^ 52
+
 pub packed : (x : Float) → T (fits binary64 x) → T (finite x) → Packed x
-packed x F p = go (eqb (to_bits binary64 x % 2 ^ 63 / 2 ^ 52) 0) (eqb→eq (to_bits binary64 x % 2 ^ 63 / 2 ^ 52) 0) (λ (e : to_bits binary64 x % 2 ^ 63 / 2 ^ 52 ≡ 0). eq→eqb e)
+packed x F p = go (eqb (field_of x) 0) (eqb→eq (field_of x) 0) (λ (e : field_of x ≡ 0). eq→eqb e)
   where
-    go : (b : Bool) → (T b → to_bits binary64 x % 2 ^ 63 / 2 ^ 52 ≡ 0) → (to_bits binary64 x % 2 ^ 63 / 2 ^ 52 ≡ 0 → T b) → Packed x
-    go true f g = record { negative = leb (2 ^ 63) (to_bits binary64 x); digits = to_bits binary64 x % 2 ^ 52; shift = 0; parts = unpacked_at_first x F p (f tt) }
-    go false f g = record { negative = leb (2 ^ 63) (to_bits binary64 x); digits = 2 ^ 52 + to_bits binary64 x % 2 ^ 52; shift = to_bits binary64 x % 2 ^ 63 / 2 ^ 52 - 1; parts = unpacked_at_later x F p g }
+    go : (b : Bool) → (T b → field_of x ≡ 0) → (field_of x ≡ 0 → T b) → Packed x
+    go true f g = record { negative = _; digits = _; shift = _; parts = unpacked_at_first x F p (f tt) }
+    go false f g = record { negative = _; digits = _; shift = _; parts = unpacked_at_later x F p g }

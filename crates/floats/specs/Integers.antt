@@ -1,11 +1,9 @@
 -- The integer that a float is taken to. A finite value's size is the fraction num / den of lib.Ieee.Positive, exactly.
-use Rattle.std.specs.Prelude.{Bool, true, false, cond, ◌&&◌, ℕ, ◌+◌, ◌-◌, ◌*◌, ◌/◌, ◌^◌, ℤ, pos, negsuc, neg_ℤ, ltb}
+use Rattle.std.specs.Prelude.{Bool, true, false, cond, ◌&&◌, ℕ, ◌+◌, ◌-◌, ◌*◌, ◌/◌, ◌^◌, ℤ, pos, negsuc, neg_ℤ, ltb, Option, Some, None}
 use lib.Ieee.{Float}
 use Rattle.std.specs.Float.Ieee.Scale.{finite}
 use Rattle.std.specs.Float.Ieee.Positive.{num, den}
 use Rattle.floats.specs.Values.{is_negative}
-use Rattle.floats.specs.declared.rounding.Integer.{Integer}
-use Rattle.floats.specs.declared.rounding.Integer.TheVariants.{At, Outside}
 
 -- the integer nearest to a / c, the greater of two that are as near
 abbrev pub half_up : ℕ → ℕ → ℕ
@@ -32,5 +30,5 @@ in_bits bits (negsuc n) = ltb n (2 ^ (bits - 1))
 abbrev pub holds : ℕ → Float → ℤ → Bool
 holds bits x z = finite x && in_bits bits z
 
-unfoldable pub held : ℕ → Float → ℤ → Integer
-held bits x z = cond (holds bits x z) (At z) Outside
+unfoldable pub held : ℕ → Float → ℤ → Option ℤ
+held bits x z = cond (holds bits x z) (Some z) None

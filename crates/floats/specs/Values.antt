@@ -1,14 +1,13 @@
 -- What a binary64 value is made of. A finite value's size is the fraction num / den of lib.Ieee.Positive, exactly.
 use Rattle.std.specs.Prelude.{Bool, false, ℕ, ◌*◌, ◌/◌, ◌^◌, ◌<◌, ◌≤◌, ℤ}
 use lib.Ieee.{Float, nan, inf, fin, minus, size}
+use Rattle.std.specs.Float.{float_with_sign}
 use Rattle.std.specs.Float.Ieee.Exact.{HasValue}
 use Rattle.std.specs.Float.Ieee.Positive.{num, den}
 
 -- the same without its sign
-unfoldable pub magnitude : Float → Float
-magnitude nan = nan
-magnitude (inf s) = inf false
-magnitude (fin s m e) = fin false m e
+abbrev pub magnitude : Float → Float
+magnitude x = float_with_sign false x
 
 -- below 2 ^ 53, and with all 53 digits where they are shifted
 pub record Digits (digits shift : ℕ) : Type 0 where

@@ -1,16 +1,10 @@
 // The integer that a float is taken to, worked out from its digits and so exactly: the nearest, or the next toward zero.
-ghost use Rattle.std.specs.Prelude.{◌≡◌, cond, ◌-◌, ◌*◌, ◌/◌, ◌^◌, ◌≤◌, min};
-ghost use Rattle.floats.specs.Values.{Digits};
+ghost use Rattle.std.specs.Prelude.{◌≡◌, cond, ◌-◌, ◌*◌, ◌/◌, ◌^◌, ◌≤◌, min, false, MatchOption};
+ghost use Rattle.std.specs.Float.Ieee.Scale.{finite};
+ghost use Rattle.floats.specs.Values.{Digits, Unpacked};
 ghost use Rattle.floats.specs.Integers.{half_up, signed, in_bits, rounded_of, cut_of, held};
 
-use crate::{is_finite, unpack};
-
-// The integer that a float was taken to, where there is one and it fits the bits that were asked for.
-#[derive(Clone, Copy)]
-pub enum Integer {
-    At(i64),
-    Outside,
-}
+use crate::{Parts, unpack};
 
 // The integer part of digits * 2^shift units. From 2^64 on it is 2^64 - 1, which is outside whatever is asked for.
 fn integer_part(digits: u64, shift: u64) -> u64
@@ -18,7 +12,7 @@ fn integer_part(digits: u64, shift: u64) -> u64
     ensures { result ≡ min (digits * 2 ^ shift / 2 ^ 1074) (2 ^ 64 - 1) }
 {
     if shift >= 1086 {
-        return 0xffff_ffff_ffff_ffff;
+        return u64::MAX;
     }
     if shift >= 1074 {
         return digits << (shift - 1074);
@@ -44,49 +38,43 @@ fn nearest_integer(digits: u64, shift: u64) -> u64
     (digits + (1 << (dropped - 1))) >> dropped
 }
 
-// `!n` is -1 - n, so that the least integer needs no number above the greatest.
-fn with_sign(negative: bool, size: u64, bits: u32) -> Integer
+// None where it does not fit. 128 bits hold every size with either sign.
+fn with_sign(negative: bool, size: u64, bits: u32) -> Option<i64>
     requires { (1 ≤ bits) × (bits ≤ 64) }
-    ensures { result ≡ cond (in_bits bits (signed negative size)) (Integer.At (signed negative size)) Integer.Outside }
+    ensures { result ≡ cond (in_bits bits (signed negative size)) (Some (signed negative size)) None }
 {
-    let half = 1u64 << (bits - 1);
-    if negative {
-        if size == 0 {
-            return Integer::At(0);
-        }
-        if size <= half {
-            return Integer::At(!((size - 1) as i64));
-        }
-        return Integer::Outside;
+    let size = i128::from(size);
+    let n = if negative { -size } else { size };
+    let half = 1i128 << (bits - 1);
+    if n < -half || half <= n {
+        return None;
     }
-    if size < half {
-        return Integer::At(size as i64);
-    }
-    Integer::Outside
+    Some(n as i64)
+}
+
+// None for an infinity or a NaN.
+fn finite_parts(x: f64) -> Option<Parts>
+    ensures { MatchOption result (finite x ≡ false) (λ r. Unpacked x r.negative r.digits r.shift) }
+{
+    if x.is_finite() { Some(unpack(x)) } else { None }
 }
 
 // To the nearest integer, halves away from zero. Adding 0.5 and cutting would take 0.49999999999999994 to 1.
-pub fn round_away(x: f64, bits: u32) -> Integer
+pub fn round_away(x: f64, bits: u32) -> Option<i64>
     requires { (1 ≤ bits) × (bits ≤ 64) }
     ensures { result ≡ held bits x (rounded_of x) }
 {
-    if !is_finite(x) {
-        return Integer::Outside;
-    }
-    let parts = unpack(x);
+    let parts = finite_parts(x)?;
     let size = nearest_integer(parts.digits, parts.shift);
     with_sign(parts.negative, size, bits)
 }
 
 // Toward zero.
-pub fn cut(x: f64, bits: u32) -> Integer
+pub fn cut(x: f64, bits: u32) -> Option<i64>
     requires { (1 ≤ bits) × (bits ≤ 64) }
     ensures { result ≡ held bits x (cut_of x) }
 {
-    if !is_finite(x) {
-        return Integer::Outside;
-    }
-    let parts = unpack(x);
+    let parts = finite_parts(x)?;
     let size = integer_part(parts.digits, parts.shift);
     with_sign(parts.negative, size, bits)
 }

@@ -2,69 +2,36 @@
 // bits. A line has the count, the answer's number, the first four places of the state's array afterwards, its count, and the piece.
 #![tactic(auto)]
 
-use decoding_16::by_value::Decoded;
-use kinds::{Order, SampleCount, Shift};
-use sample_16::State;
+use decoding::by_value::{Decoded, decode_in_place};
+use kinds::{Configuration, Order, SampleCount, Shift};
+use sample::State;
 use std::io;
 
-fn say_number(rt: &impl Print, n: u64) -> io::Result<()> {
-    print!(rt; " {n}")
-}
-
-fn say_sample(rt: &impl Print, sample: u16) -> io::Result<()> {
-    say_number(rt, sample as u64)
-}
-
-fn say_first_four(rt: &impl Print, samples: [u16; 32]) -> io::Result<()> {
-    say_sample(rt, samples[0])?;
-    say_sample(rt, samples[1])?;
-    say_sample(rt, samples[2])?;
-    say_sample(rt, samples[3])
-}
-
-fn say_decoded(rt: &impl Print, decoded: Decoded, output: u16) -> io::Result<()> {
-    let said = decoded.said;
-    let answer = said.answer;
-    let state = decoded.state;
-    let samples = state.samples;
-    let count = state.count;
-    say_number(rt, kinds::number(answer) as u64)?;
-    say_first_four(rt, samples)?;
-    say_number(rt, count.0 as u64)?;
-    say_sample(rt, output)?;
-    println!(rt)
-}
-
 fn decode(rt: &impl Print, count: usize) -> io::Result<()> {
-    let weights: [i32; 1] = [1];
-    let mut samples: [u16; 32] = [0; 32];
-    samples[0] = 10;
-    samples[1] = 77;
-    samples[2] = 78;
-    samples[3] = 79;
-    let state = State {
+    let mut samples = [0; 32];
+    samples[..4].copy_from_slice(&[10, 77, 78, 79]);
+    let forged = State {
         samples,
         count: SampleCount(count),
     };
-    let mut piece: [u16; 1] = [32770];
-    let decoded = decoding_16::by_value::decode_in_place(
-        Order(1),
-        Shift(0),
-        0,
-        &weights,
-        state,
-        &mut piece,
-    );
-    say_number(rt, count as u64)?;
-    say_decoded(rt, decoded, piece[0])
+    let config = Configuration {
+        order: Order(1),
+        shift: Shift(0),
+        bias: 0,
+        weights: &[1],
+    };
+    let mut piece = [32770u16];
+    let Decoded { said, state } = decode_in_place(config, forged, &mut piece);
+    print!(rt; " {count} {}", kinds::number(said))?;
+    for sample in &state.samples[..4] {
+        print!(rt; " {sample}")?;
+    }
+    println!(rt; " {} {}", state.count.0, piece[0])
 }
 
 fn main(rt: HostRuntime) -> io::Result<()> {
-    decode(&rt, 1)?;
-    decode(&rt, 0)?;
-    decode(&rt, 2)?;
-    decode(&rt, 32)?;
-    decode(&rt, 33)?;
-    decode(&rt, 40)?;
-    decode(&rt, 18446744073709551615)
+    for count in [1, 0, 2, 32, 33, 40, usize::MAX] {
+        decode(&rt, count)?;
+    }
+    Ok(())
 }

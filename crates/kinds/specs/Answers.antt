@@ -1,10 +1,9 @@
--- The refusal table: each answer's number, and the two ways in which answers are put together.
-use Rattle.std.specs.Prelude.{Bool, true, false, cond, ℕ, eqb}
-use Rattle.kinds.specs.declared.Answer.{Answer}
-use Rattle.kinds.specs.declared.Answer.TheVariants.{Done, BadOrder, BadShift, Overflows, BadLength, TooFewSamples, NoConfiguration, BytesEnd, UnknownVariant, BadRecord, UnfitField, NoRoom}
+-- The refusal table: each refusal's number, and the two ways in which answers are put together.
+use Rattle.std.specs.Prelude.{Bool, true, false, cond, ℕ, Result, Ok, Err, is_ok}
+use Rattle.kinds.specs.declared.Refusal.{Refusal}
+use Rattle.kinds.specs.declared.Refusal.TheVariants.{BadOrder, BadShift, Overflows, BadLength, TooFewSamples, NoConfiguration, BytesEnd, UnknownVariant, BadRecord, UnfitField, NoRoom}
 
-abbrev pub number_of : Answer → ℕ
-number_of Done = 0
+abbrev pub number_of : Refusal → ℕ
 number_of BadOrder = 1
 number_of BadShift = 2
 number_of Overflows = 3
@@ -17,15 +16,23 @@ number_of BadRecord = 9
 number_of UnfitField = 10
 number_of NoRoom = 11
 
--- the answer a where the test fails it, and otherwise what the later tests say
-abbrev pub refuse : Bool → Answer → Answer → Answer
-refuse true a later = a
-refuse false a later = later
-
 -- 0 is done
-abbrev pub is_done : Answer → Bool
-is_done a = eqb (number_of a) 0
+abbrev pub answer_number : {A : Type 0} → Result A Refusal → ℕ
+answer_number (Ok a) = 0
+answer_number (Err r) = number_of r
+
+-- what a call says that has nothing else to say
+abbrev pub Answer : Type 0
+Answer = Result (Unit {0}) Refusal
+
+abbrev pub Done : Answer
+Done = Ok tt
+
+-- the refusal r where the test fails it, and otherwise what the later tests say
+abbrev pub refuse : {A : Type 0} → Bool → Refusal → Result A Refusal → Result A Refusal
+refuse true r later = Err r
+refuse false r later = later
 
 -- what a call leaves: the first where it is done, the second beside a refusal
-abbrev pub when_done {ℓ} : {A : Type ℓ} → Answer → A → A → A
-when_done a done refused = cond (is_done a) done refused
+abbrev pub when_done {ℓ} : {A : Type 0} {B : Type ℓ} → Result A Refusal → B → B → B
+when_done a done refused = cond (is_ok a) done refused

@@ -1,4 +1,4 @@
 pub mod Toggling
-pub mod Signs
-pub mod Summing
 pub mod Converting
+pub mod Adding
+pub mod Room

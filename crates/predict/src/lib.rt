@@ -1,2 +1,6 @@
-// Nothing runs here: proofs/ has the laws of the centre and of a prediction, over the width W.
+// A prediction from the samples before a place, and the residual that it leaves of the sample there.
 #![tactic(auto)]
+
+pub mod centre;
+pub mod config;
+pub mod prediction;

@@ -1,44 +1,85 @@
--- A call's tests in their order: what each refusal leaves, and what a call leaves that passed them.
-use mathlib.Core.Path.{◌≡◌, refl, ap, ◌∙◌}
-use mathlib.Core.Bool.{Bool, true, false, cond}
+-- A call's tests in their order: what each refusal leaves, and what a call leaves that passed them. A call with lent floats tests their number
+-- first, and then leaves what the call on an array leaves that begins with them.
+use mathlib.Core.Path.{◌≡◌, refl, sym, ap, ◌∙◌}
+use mathlib.Core.Bool.{Bool, true, false, not, ◌&&◌}
 use mathlib.Core.List.{List}
-use Prim.Native.Nat.{ℕ}
+use Prim.Native.Nat.{ℕ, ◌≤◌}
+use borrow.Author.Tests.{eqb-true, eq-eqb}
 use lib.Dec.{eqb}
 use lib.Ieee.{Float}
 use lib.IntN.{ℤ}
 use lib.ListN.{length, take}
-use Rattle.kinds.specs.declared.Answer.TheVariants.{BadOrder, BadLength, NoConfiguration}
+use Rattle.std.specs.Prelude.{Result, Ok, Err, None}
+use Rattle.kinds.specs.declared.Refusal.{Refusal}
+use Rattle.kinds.specs.declared.Refusal.TheVariants.{BadOrder, BadLength, NoConfiguration}
+use Rattle.kinds.specs.Answers.{Answer, Done, refuse}
 use Rattle.rule.specs.Refusals.{order_fits}
-use Rattle.quantising.specs.declared.Configuration.{Configuration}
-use Rattle.quantising.specs.Steps.{found, only, outcome}
-use Rattle.quantising.specs.Stages.{as_outcome}
-use Rattle.quantising.specs.Calls.{left, done_with, refused_with, concluded, quantised}
+use Rattle.rule.proofs.Passing.{order_few}
+use Rattle.quantising.specs.declared.Quantised.{Quantised}
+use Rattle.quantising.specs.Steps.{found, outcome}
+use Rattle.quantising.specs.Calls.{left, quantised, quantised_fitted}
+
+-- tests 1 and 4 of n weights
+abbrev pub early : ℕ → ℕ → Answer
+early k n = refuse (not (order_fits k)) BadOrder (refuse (not (eqb n k)) BadLength Done)
+
+pub record Passed (k n : ℕ) : Type 0 where
+  pub order : order_fits k ≡ true
+  pub count : n ≡ k
+  pub few : n ≤ 32
+
+pub passed : (k n : ℕ) → early k n ≡ Done → Passed k n
+passed k n h =
+    let both = go (order_fits k) (eqb n k) h in
+    let count = eqb-true n k both.1 in
+    record { order = both.0; count = count; few = rw count (order_few k both.0) }
+  where
+    go : (order count : Bool) → refuse (not order) BadOrder (refuse (not count) BadLength Done) ≡ Done → (order ≡ true) × (count ≡ true)
+    go true true h = (refl, refl)
+    go true false h = cc
+    go false count h = cc
+
+module _ {A : Type 0} (later : Result A Refusal) (r : Refusal) where
+  all : Bool → Bool → Bool → Result A Refusal
+  all order given places = refuse (not order) BadOrder (refuse (not (given && places)) BadLength later)
+
+  by_given : (order given places : Bool) → refuse (not order) BadOrder (refuse (not given) BadLength Done) ≡ Err r → all order given places ≡ Err r
+  unfolding all
+  by_given false given places h = cc
+  by_given true false places h = cc
+  by_given true true places h = cc
+
+  by_places : (order given places : Bool) → refuse (not order) BadOrder (refuse (not places) BadLength Done) ≡ Err r → all order given places ≡ Err r
+  unfolding all
+  by_places false given places h = cc
+  by_places true false false h = cc
+  by_places true true false h = cc
+  by_places true given true h = cc
 
 module _ (W k : ℕ) (fitted : List Float) (centre : ℕ) (c : Float) (entry : List ℤ) where
-  pub bad_order : order_fits k ≡ false → left (refused_with BadOrder) entry ≡ quantised W k fitted centre c entry
-  unfolding quantised
-  bad_order order = rw order
+  pub given_refused : (r : Refusal) → early k (length fitted) ≡ Err r → left (Err r) entry ≡ quantised W k fitted centre c entry
+  unfolding quantised all
+  given_refused r h = rw (by_given _ r (order_fits k) (eqb (length fitted) k) (eqb (length entry) k) h)
 
-  module _ (order : order_fits k ≡ true) where
-    pub bad_given : eqb (length fitted) k ≡ false → left (refused_with BadLength) entry ≡ quantised W k fitted centre c entry
+  pub places_refused : (r : Refusal) → early k (length entry) ≡ Err r → left (Err r) entry ≡ quantised W k fitted centre c entry
+  unfolding quantised all
+  places_refused r h = rw (by_places _ r (order_fits k) (eqb (length fitted) k) (eqb (length entry) k) h)
+
+  module _ (given : length fitted ≡ k) (places : early k (length entry) ≡ Done) where
+    pub nothing_found : outcome W fitted centre c ≡ None → left (Err NoConfiguration) entry ≡ quantised W k fitted centre c entry
     unfolding quantised
-    bad_given given = rw (order, given)
+    nothing_found h =
+        let p = passed k (length entry) places in
+        rw (p.order, eq-eqb _ _ given, eq-eqb _ _ p.count, h)
 
-    module _ (given : eqb (length fitted) k ≡ true) where
-      pub bad_places : eqb (length entry) k ≡ false → left (refused_with BadLength) entry ≡ quantised W k fitted centre c entry
-      unfolding quantised
-      bad_places places = rw (order, given, places)
+    pub configured : (q : Quantised) (weights : List ℤ) → outcome W fitted centre c ≡ found q.shift q.bias weights → left (Ok q) weights ≡ quantised W k fitted centre c entry
+    unfolding quantised
+    configured q weights h =
+        let p = passed k (length entry) places in
+        rw (p.order, eq-eqb _ _ given, eq-eqb _ _ p.count, h)
 
-      module _ (places : eqb (length entry) k ≡ true) where
-        past_tests : concluded entry (outcome W fitted centre c) ≡ quantised W k fitted centre c entry
-        unfolding quantised
-        past_tests = rw (order, given, places)
-
-        -- r is the configuration of the six steps, with its weights in the first k places of an array
-        pub configured : (r : Configuration) → as_outcome k r ≡ outcome W fitted centre c
-            → left (cond r.found (done_with r.shift r.bias) (refused_with NoConfiguration)) (cond r.found (take k r.weights) entry) ≡ quantised W k fitted centre c entry
-        configured r h = go r.found ∙ ap (concluded entry) h ∙ past_tests
-          where
-            go : (t : Bool) → left (cond t (done_with r.shift r.bias) (refused_with NoConfiguration)) (cond t (take k r.weights) entry) ≡ concluded entry (only t (found r.shift r.bias (take k r.weights)))
-            go true = refl
-            go false = refl
+  -- the call on an array that begins with the lent floats
+  pub same_call : (array : List Float) → length fitted ≡ k → take (length fitted) array ≡ fitted
+      → quantised_fitted W (record { weights = array; bias = c; order = record { 0 = k } }) centre entry ≡ quantised W k fitted centre c entry
+  same_call array count front =
+      ap (λ (ws : List Float). quantised W k ws centre c entry) (ap (λ (n : ℕ). take n array) (sym count) ∙ front)

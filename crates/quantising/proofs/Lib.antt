@@ -1,4 +1,4 @@
-mod Calling
+pub mod Calling
 mod Constants
 mod Turns
 mod Unsigned
@@ -9,6 +9,6 @@ mod Units
 mod Losses
 mod Sums
 mod Quotients
-pub mod Lending
 pub mod Promises
 pub mod Never
+mod Early

@@ -25,9 +25,8 @@ use Rattle.kinds.specs.declared.Shift.{Shift}
 use Rattle.record.specs.Widths.{greatest_shift}
 use Rattle.rule.specs.Numbers.{greatest, limit}
 use Rattle.rule.specs.Prediction.{sum_abs, admitted}
-use Rattle.quantising.specs.Scale.{◌⊗◌, float, total, abs_total, float_bias, divisor, quotient, scale_of}
+use Rattle.quantising.specs.Scale.{◌⊗◌, float, total, abs_total, float_bias, divisor, quotient, by, scale_of}
 use Rattle.quantising.specs.Steps.{weight_of, weights_hold, bias_of, bias_holds, found, completed, outcome}
-use Rattle.quantising.specs.declared.scaling.Scale.TheVariants.{By}
 use Rattle.quantising.proofs.Unsigned.{abs_total_unsigned}
 use Rattle.quantising.proofs.Divisors.{limit_float, divisor_positive, divisor_size, quotient_positive}
 use Rattle.quantising.proofs.Units.{Counts, integer_float, scale_exact}
@@ -273,10 +272,10 @@ both_room e m b s D c h k =
     go a t c h k = omega arith
 
 -- ---- the theorem: a shift of steps 1 to 4 always leads to a configuration
-pub never_refused : (w : Width) (ws : List Float) (centre : ℕ) (c : Float) (s : Shift) (b : Float) → Held ws → length ws ≤ 32 → By s b ≡ scale_of (bits_of w) ws centre c
+pub never_refused : (w : Width) (ws : List Float) (centre : ℕ) (c : Float) (s : Shift) (b : Float) → Held ws → length ws ≤ 32 → by s b ≡ scale_of (bits_of w) ws centre c
     → found s (bias_of (float (2 ^ s.0)) b) (map (weight_of (float (2 ^ s.0))) ws) ≡ outcome (bits_of w) ws centre c
 unfolding abs_total float_bias quotient
-never_refused w ws centre c s b h n by =
+never_refused w ws centre c s b h n e =
     let W = bits_of w in
     let q = s.0 in
     let v = limit_as w in
@@ -285,8 +284,8 @@ never_refused w ws centre c s b h n by =
     let S = abs_total ws in
     let d = divisor W S bias in
     let L = float (limit W) in
-    let t = reached W ws centre c s b by in
-    let small = (shift_fits W ws centre c s b by).recorded in
+    let t = reached W ws centre c s b e in
+    let small = (shift_fits W ws centre c s b e).recorded in
     let power = power_not_above W (quotient W d) bias s b t.scale_is in
     let F : T (fits binary64 bias) = add-fits binary64 _ c in
     let f = bias_finite W S bias t.divisor_finite in
@@ -299,6 +298,6 @@ never_refused w ws centre c s b h n by =
     let weights = first (total_units ws * 2 ^ q * greatest W) (units_of bias * 2 ^ q) (3 * (v * 2 ^ 1074)) both in
     let rest = second (total_units ws * 2 ^ q * greatest W) (units_of bias * 2 ^ q) (3 * (v * 2 ^ 1074)) both in
     ap (λ (x : Float). found s (bias_of (float (2 ^ q)) x) (map (weight_of (float (2 ^ q))) ws)) power.1
-    ∙ is_admitted W ws s bias (weights_hold_lem W v q m small ws h terms weights) (bias_holds_lem W v q m small bias F f rest) (rule_holds W v q m small ws bias h terms F f n both)
-    ∙ ap (λ (x : Float). completed W ws (By s x)) (sym power.1)
-    ∙ past_scale W ws centre c s b by
+    ∙ sym (is_admitted W ws s bias (weights_hold_lem W v q m small ws h terms weights) (bias_holds_lem W v q m small bias F f rest) (rule_holds W v q m small ws bias h terms F f n both))
+    ∙ ap (λ (x : Float). completed W ws (record { shift = s; bias = x })) (sym power.1)
+    ∙ sym (past_scale W ws centre c s b e)

@@ -1,6 +1,6 @@
 -- What every configuration that quantising hands out keeps: the coders take it, by the accumulator rule and a shift below A, and it can be written to a record.
 use mathlib.Core.Path.{◌≡◌, refl, sym, ap, ap₂, ◌∙◌, subst}
-use mathlib.Core.Bool.{Bool, true, false, not, ◌&&◌, false≢true}
+use mathlib.Core.Bool.{Bool, true, false, not, ◌&&◌}
 use mathlib.Core.List.{List, map}
 use Prim.Native.Nat.{ℕ, ◌+◌, ◌-◌, ◌^◌, ◌≤◌, ◌<◌}
 use native.Mathlib.Omega.{arith}
@@ -11,12 +11,13 @@ use lib.ListN.{length}
 use lib.Ieee.{Float}
 use lib.Ieee.Fits.{and_l}
 use Rattle.floats.proofs.Patterns.{yes}
-use Rattle.kinds.specs.declared.Answer.{Answer}
-use Rattle.kinds.specs.declared.Answer.TheVariants.{Done, BadOrder, BadLength}
+use Rattle.kinds.specs.declared.Refusal.{Refusal}
+use Rattle.kinds.specs.declared.Refusal.TheVariants.{BadOrder, BadLength, NoConfiguration}
 use Rattle.kinds.specs.declared.Shift.{Shift}
 use Rattle.kinds.specs.declared.Width.{Width}
 use Rattle.kinds.specs.declared.Width.TheVariants.{Eight, Sixteen, ThirtyTwo}
-use Rattle.kinds.specs.Answers.{refuse, is_done, when_done}
+use Rattle.kinds.specs.Answers.{refuse}
+use Rattle.std.specs.Prelude.{Option, Some, None, Result, Ok, ok_or, option_and_then}
 use Rattle.kinds.specs.Widths.{bits_of}
 use Rattle.record.specs.declared.DeltaEncoding.{DeltaEncoding}
 use Rattle.record.specs.declared.DeltaEncoding.TheVariants.{Conv1}
@@ -25,13 +26,12 @@ use Rattle.record.specs.Writing.{misordered, malformed, unfit}
 use Rattle.rule.specs.Numbers.{accumulator}
 use Rattle.rule.specs.Prediction.{admitted}
 use Rattle.rule.specs.Refusals.{order_fits}
+use Rattle.quantising.specs.declared.Quantised.{Quantised}
 use Rattle.quantising.specs.declared.scaling.Scale.{Scale}
-use Rattle.quantising.specs.declared.scaling.Scale.TheVariants.{Nothing, By}
-use Rattle.quantising.specs.Scale.{float, scale_of}
-use Rattle.quantising.specs.Steps.{weight_of, weights_hold, bias_of, bias_holds, Outcome, none, found, only, completed, outcome}
-use Rattle.quantising.specs.Calls.{Leaves, left, refused_with, concluded, quantised}
-use Rattle.quantising.proofs.Choosing.{ShiftFits, shift_fits}
-use Rattle.quantising.proofs.Completing.{nothing_completed}
+use Rattle.quantising.specs.Scale.{float, by, only, scale_of}
+use Rattle.quantising.specs.Steps.{weight_of, weights_hold, bias_of, bias_holds, Found, found, completed, outcome}
+use Rattle.quantising.specs.Calls.{Leaves, concluded, quantised}
+use Rattle.quantising.proofs.Choosing.{same_some, ShiftFits, shift_fits}
 
 -- a configuration that the coders take, with a shift that the record's field holds
 pub record Usable (W : ℕ) (q : Shift) (bias : ℤ) (weights : List ℤ) : Type 0 where
@@ -46,22 +46,24 @@ pub record Writable (encoding : DeltaEncoding) : Type 0 where
   pub fit : unfit encoding ≡ false
 
 -- ---- whatever the six steps find
-none_found : (q : Shift) (bias : ℤ) (ws : List ℤ) → found q bias ws ≡ none → ⊥
+none_found : (q : Shift) (bias : ℤ) (ws : List ℤ) → found q bias ws ≡ None → ⊥
 none_found q bias ws h = let z : ◌≡◌ {A = ℕ} 0 1 = cc in omega arith
 
-under_only : (t : Bool) (o : Outcome) (q : Shift) (bias : ℤ) (ws : List ℤ) → found q bias ws ≡ only t o → (t ≡ true) × (found q bias ws ≡ o)
+under_only : (t : Bool) (o : Option Found) (q : Shift) (bias : ℤ) (ws : List ℤ) → found q bias ws ≡ only t o → (t ≡ true) × (found q bias ws ≡ o)
 under_only true o q bias ws h = (refl, h)
 under_only false o q bias ws h = absurd (none_found q bias ws h)
 
 same_found : (q r : Shift) (a b : ℤ) (l m : List ℤ) → found q a l ≡ found r b m → (q ≡ r) × (a ≡ b) × (l ≡ m)
-same_found q r a b l m h = ((cc), (cc), (cc))
+same_found q r a b l m h =
+    let e = same_some (record { shift = q; bias = a; weights = l }) (record { shift = r; bias = b; weights = m }) h in
+    (ap (λ (f : Found). f.shift) e, ap (λ (f : Found). f.bias) e, ap (λ (f : Found). f.weights) e)
 
 record Kept (W : ℕ) (q : Shift) (bias : ℤ) (weights : List ℤ) : Type 0 where
   rule : admitted W bias weights ≡ true
   shift : ShiftFits W q.0
 
 module _ (W : ℕ) (ws : List Float) (centre : ℕ) (c : Float) (q : Shift) (bias : ℤ) (weights : List ℤ) where
-  by_kept : (r : Shift) (b : Float) → By r b ≡ scale_of W ws centre c → found q bias weights ≡ completed W ws (By r b) → Kept W q bias weights
+  by_kept : (r : Shift) (b : Float) → by r b ≡ scale_of W ws centre c → found q bias weights ≡ completed W ws (record { shift = r; bias = b }) → Kept W q bias weights
   unfolding completed
   by_kept r b e h =
       let p = float (2 ^ r.0) in
@@ -76,12 +78,9 @@ module _ (W : ℕ) (ws : List Float) (centre : ℕ) (c : Float) (q : Shift) (bia
   unfolding outcome
   found_kept h = go (scale_of W ws centre c) refl h
     where
-      nothing : found q bias weights ≡ completed W ws Nothing → ⊥
-      nothing h = none_found q bias weights (h ∙ nothing_completed W ws)
-
-      go : (s : Scale) → s ≡ scale_of W ws centre c → found q bias weights ≡ completed W ws s → Kept W q bias weights
-      go Nothing e h = absurd (nothing h)
-      go (By r b) e h = by_kept r b e h
+      go : (s : Option Scale) → s ≡ scale_of W ws centre c → found q bias weights ≡ option_and_then (completed W ws) s → Kept W q bias weights
+      go None e h = absurd (none_found q bias weights h)
+      go (Some s) e h = by_kept s.shift s.bias e h
 
   -- the record of it, with as many weights as there were floats
   pub found_writable : order_fits (length ws) ≡ true → found q bias weights ≡ outcome W ws centre c → Writable (Conv1 q bias (record { 0 = length ws }))
@@ -101,42 +100,41 @@ found_usable w ws centre c q bias weights h =
     record { rule = k.rule; below = shift_below w q.0 k.shift.accumulated; recorded = k.shift.recorded }
 
 -- ---- whatever a call that is done leaves
-module _ (W k : ℕ) (fitted : List Float) (centre : ℕ) (c : Float) (entry : List ℤ) where
+same_ok : (a b : Quantised) → ◌≡◌ {A = Result Quantised Refusal} (Ok a) (Ok b) → a ≡ b
+same_ok a b h = cc
+
+module _ (W k : ℕ) (fitted : List Float) (centre : ℕ) (c : Float) (entry : List ℤ) (q : Quantised) where
   abbrev l : Leaves
   l = quantised W k fitted centre c entry
 
   record Concluded : Type 0 where
     order : order_fits k ≡ true
     given : length fitted ≡ k
-    is : found l.shift l.bias l.weights ≡ outcome W fitted centre c
+    is : found q.shift q.bias l.weights ≡ outcome W fitted centre c
 
-  done_concluded : l.answer ≡ Done → Concluded
+  done_concluded : l.said ≡ Ok q → Concluded
   unfolding quantised
   done_concluded h =
       let at = go (order_fits k) (eqb (length fitted) k && eqb (length entry) k) (outcome W fitted centre c) h in
       record { order = at.0; given = eqb→eq (length fitted) k (and_l (eqb (length fitted) k) (eqb (length entry) k) (yes at.1)); is = at.2 }
     where
-      tests : Bool → Bool → Answer
-      tests order lengths = refuse (not order) BadOrder (refuse (not lengths) BadLength Done)
+      after : Bool → Bool → Option Found → Leaves
+      after order lengths o = concluded entry (refuse (not order) BadOrder (refuse (not lengths) BadLength (ok_or o NoConfiguration)))
 
-      after : Bool → Bool → Outcome → Leaves
-      after order lengths o = when_done (tests order lengths) (concluded entry o) (left (refused_with (tests order lengths)) entry)
+      go : (order lengths : Bool) (o : Option Found) → (after order lengths o).said ≡ Ok q
+          → (order ≡ true) × (lengths ≡ true) × (found q.shift q.bias (after order lengths o).weights ≡ o)
+      go false lengths o h = cc
+      go true false o h = cc
+      go true true None h = cc
+      go true true (Some f) h = (refl, refl, ap (λ (r : Quantised). found r.shift r.bias f.weights) (sym (same_ok (record { shift = f.shift; bias = f.bias }) q h)))
 
-      go : (order lengths : Bool) (o : Outcome) → (after order lengths o).answer ≡ Done
-          → (order ≡ true) × (lengths ≡ true) × (found (after order lengths o).shift (after order lengths o).bias (after order lengths o).weights ≡ o)
-      go false lengths o h = absurd (false≢true (ap is_done h))
-      go true false o h = absurd (false≢true (ap is_done h))
-      go true true none h = absurd (false≢true (ap is_done h))
-      go true true (found q bias ws) h = (refl, refl, refl)
-
-  pub done_writable : l.answer ≡ Done → Writable (Conv1 l.shift l.bias (record { 0 = k }))
+  pub done_writable : l.said ≡ Ok q → Writable (Conv1 q.shift q.bias (record { 0 = k }))
   done_writable h =
       let d = done_concluded h in
-      subst (λ (n : ℕ). Writable (Conv1 l.shift l.bias (record { 0 = n }))) d.given
-      (found_writable W fitted centre c l.shift l.bias l.weights (rw d.given d.order) d.is)
+      subst (λ (n : ℕ). Writable (Conv1 q.shift q.bias (record { 0 = n }))) d.given
+      (found_writable W fitted centre c q.shift q.bias l.weights (rw d.given d.order) d.is)
 
-pub done_usable : (w : Width) (k : ℕ) (fitted : List Float) (centre : ℕ) (c : Float) (entry : List ℤ)
-    → (let l = quantised (bits_of w) k fitted centre c entry in l.answer ≡ Done → Usable (bits_of w) l.shift l.bias l.weights)
-done_usable w k fitted centre c entry h =
-    let l = quantised (bits_of w) k fitted centre c entry in
-    found_usable w fitted centre c l.shift l.bias l.weights (done_concluded (bits_of w) k fitted centre c entry h).is
+pub done_usable : (w : Width) (k : ℕ) (fitted : List Float) (centre : ℕ) (c : Float) (entry : List ℤ) (q : Quantised)
+    → (let l = quantised (bits_of w) k fitted centre c entry in l.said ≡ Ok q → Usable (bits_of w) q.shift q.bias l.weights)
+done_usable w k fitted centre c entry q h =
+    found_usable w fitted centre c q.shift q.bias _ (done_concluded (bits_of w) k fitted centre c entry q h).is

@@ -16,15 +16,14 @@ use Rattle.floats.specs.Values.{exponent_of}
 use Rattle.kinds.specs.declared.Shift.{Shift}
 use Rattle.record.specs.Widths.{greatest_shift}
 use Rattle.rule.specs.Numbers.{accumulator}
-use Rattle.quantising.specs.Scale.{◌⊘◌, least_shift, scale_at}
-use Rattle.quantising.specs.declared.scaling.Scale.TheVariants.{By}
+use Rattle.quantising.specs.Scale.{◌⊘◌, least_shift, by, scale_at}
 use Rattle.quantising.proofs.Divisors.{quotient_of}
 use Rattle.quantising.proofs.Choosing.{by_once, not_by}
 use Rattle.quantising.proofs.Units.{Counts}
 
 -- ---- 2 ^ (q + 1) is not above x
 -- the exponent, and with it the binary digits of x in units
-shift_size : (W : ℕ) (e : ℤ) (bias : Float) (q : Shift) (b : Float) → By q b ≡ scale_at W e bias → (less : ℕ) × (e ≡ pos (suc less)) × (q.0 ≤ less) × (b ≡ bias)
+shift_size : (W : ℕ) (e : ℤ) (bias : Float) (q : Shift) (b : Float) → by q b ≡ scale_at W e bias → (less : ℕ) × (e ≡ pos (suc less)) × (q.0 ≤ less) × (b ≡ bias)
 unfolding scale_at
 shift_size W (pos (suc less)) bias q b h =
     let e = by_once q (least_shift W less) b bias h in
@@ -53,7 +52,7 @@ minus_size n less h = go (leb 1075 n) h
         none : ◌≡◌ {A = ℕ} 0 1 → ⊥
         none e = omega arith
 
-pub power_not_above : (W : ℕ) (x bias : Float) (s : Shift) (b : Float) → By s b ≡ scale_at W (exponent_of x) bias → (2 ^ (s.0 + 1) * den x ≤ num x) × (b ≡ bias)
+pub power_not_above : (W : ℕ) (x bias : Float) (s : Shift) (b : Float) → by s b ≡ scale_at W (exponent_of x) bias → (2 ^ (s.0 + 1) * den x ≤ num x) × (b ≡ bias)
 unfolding exponent_of
 power_not_above W x bias s b h =
     let q = s.0 in

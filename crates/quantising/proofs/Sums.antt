@@ -1,7 +1,7 @@
 -- The divisor of step 2 against the exact figure: eight ninths of M times the exact sum of the absolute weights, plus the absolute float bias, are at most the divisor.
 use mathlib.Core.Path.{◌≡◌, refl, sym, ap, ◌∙◌, subst}
 use mathlib.Core.Bool.{true, false}
-use mathlib.Core.List.{List, [], ◌∷◌, map}
+use mathlib.Core.List.{List, [], ◌∷◌}
 use Prim.Native.Nat.{ℕ, suc, ◌+◌, ◌*◌, ◌/◌, ◌^◌, ◌≤◌}
 use native.Mathlib.Nat.{mul-div_cancel}
 use native.Mathlib.Omega.{arith}
@@ -10,10 +10,11 @@ use lib.ListN.{length}
 use lib.Ieee.{Float, nan, inf, fin, binary64, add, of_int, fits}
 use lib.Ieee.Positive.{num, den, den_pos}
 use lib.Ieee.Scale.{finite}
+use Rattle.std.specs.Float.{float_with_sign}
 use Rattle.floats.specs.Values.{magnitude}
 use Rattle.floats.proofs.Unpacking.{value_size, Packed, packed}
 use Rattle.rule.specs.Numbers.{greatest}
-use Rattle.quantising.specs.Scale.{◌⊕◌, ◌⊗◌, float, sum_from, abs_total, divisor}
+use Rattle.quantising.specs.Scale.{◌⊕◌, ◌⊗◌, float, abs_sum_from, abs_total, divisor}
 use Rattle.quantising.proofs.Unsigned.{Unsigned, float_unsigned, magnitude_unsigned, add_unsigned, mul_unsigned, abs_total_unsigned}
 use Rattle.quantising.proofs.Units.{Counts, add_near, mul_near, integer_float}
 use Rattle.quantising.proofs.Losses.{Under, under_start, under_round, under_add, under_mul, under_all}
@@ -32,7 +33,7 @@ counted x F f =
     record { is_finite = f; size_is = value_size x p.negative (p.digits * 2 ^ p.shift) (2 ^ 1074) p.parts.value ∙ ap (λ (n : ℕ). n * den x) (sym (units_packed x p)) }
 
 counted_magnitude : (x : Float) (n : ℕ) → Counts x n → Counts (magnitude x) n
-unfolding magnitude
+unfolding float_with_sign
 counted_magnitude nan n c = absurd c.is_finite
 counted_magnitude (inf s) n c = absurd c.is_finite
 counted_magnitude (fin s m e) n c = record { is_finite = tt; size_is = c.size_is }
@@ -63,7 +64,7 @@ left_finite (inf s) (fin t n d) f = f
 left_finite (fin s m e) y f = tt
 
 right_finite : (x y : Float) → T (finite (x ⊕ magnitude y)) → T (finite y)
-unfolding add magnitude
+unfolding add float_with_sign
 right_finite nan y f = absurd f
 right_finite (inf s) nan f = f
 right_finite (inf true) (inf t) f = f
@@ -73,11 +74,11 @@ right_finite (fin s m e) nan f = f
 right_finite (fin s m e) (inf t) f = f
 right_finite (fin s m e) (fin t n d) f = tt
 
-start_finite : (t : Float) (ws : List Float) → T (finite (sum_from t (map magnitude ws))) → T (finite t)
+start_finite : (t : Float) (ws : List Float) → T (finite (abs_sum_from t ws)) → T (finite t)
 start_finite t [] f = f
 start_finite t (w ∷ ws) f = left_finite t (magnitude w) (start_finite (t ⊕ magnitude w) ws f)
 
-pub terms_finite : (t : Float) (ws : List Float) → T (finite (sum_from t (map magnitude ws))) → Finite ws
+pub terms_finite : (t : Float) (ws : List Float) → T (finite (abs_sum_from t ws)) → Finite ws
 terms_finite t [] f = tt
 terms_finite t (w ∷ ws) f = (right_finite t w (start_finite (t ⊕ magnitude w) ws f), terms_finite (t ⊕ magnitude w) ws f)
 
@@ -87,7 +88,7 @@ pub record Summed (z : Float) (a n : ℕ) : Type 0 where
   pub counts : Counts z count
   pub under : Under a count n
 
-sum_under : (ws : List Float) (t : Float) (a z n : ℕ) → Unsigned t → Counts t z → Under a z n → Held ws → T (finite (sum_from t (map magnitude ws))) → Summed (sum_from t (map magnitude ws)) (a + total_units ws) (n + length ws)
+sum_under : (ws : List Float) (t : Float) (a z n : ℕ) → Unsigned t → Counts t z → Under a z n → Held ws → T (finite (abs_sum_from t ws)) → Summed (abs_sum_from t ws) (a + total_units ws) (n + length ws)
 sum_under [] t a z n s c u h f = record { count = z; counts = c; under = subst (λ (k : ℕ). Under k z (n + 0)) (none a) (subst (λ (k : ℕ). Under a z k) (none n) u) }
   where
     none : (a : ℕ) → a ≡ a + 0

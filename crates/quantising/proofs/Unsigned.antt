@@ -1,13 +1,14 @@
 -- A float without a minus sign: what is made of such floats by rounding, sums, products and magnitudes is one again.
 use mathlib.Core.Path.{◌≡◌, refl, ap, ◌∙◌}
 use mathlib.Core.Bool.{Bool, true, false, cond, true≢false}
-use mathlib.Core.List.{List, [], ◌∷◌, map}
+use mathlib.Core.List.{List, [], ◌∷◌}
 use Prim.Native.Nat.{ℕ, zero, suc, ◌+◌, ◌*◌, ◌^◌}
 use lib.Dec.{ltb, eqb}
 use lib.Ieee.{Float, nan, inf, fin, Format, binary64, prec, emax, low, up, down, odd, units, round, sum, add, mul, of_int}
 use lib.Ieee.Fits.{round_is}
+use Rattle.std.specs.Float.{float_with_sign}
 use Rattle.floats.specs.Values.{is_negative, magnitude}
-use Rattle.quantising.specs.Scale.{◌⊕◌, ◌⊗◌, float, sum_from, abs_total}
+use Rattle.quantising.specs.Scale.{◌⊕◌, ◌⊗◌, float, abs_sum_from, abs_total}
 
 abbrev pub Unsigned : Float → Type 0
 Unsigned x = is_negative x ≡ false
@@ -33,7 +34,7 @@ unfolding of_int
 float_unsigned n = round_sign binary64 false n 1
 
 pub magnitude_unsigned : (x : Float) → Unsigned (magnitude x)
-unfolding magnitude
+unfolding float_with_sign
 magnitude_unsigned nan = refl
 magnitude_unsigned (inf s) = refl
 magnitude_unsigned (fin s m e) = refl
@@ -72,7 +73,7 @@ mul_unsigned (fin false m e) (inf false) p q = cond_unsigned (eqb m 0) nan (inf 
 mul_unsigned (fin false m e) (fin true n d) p q = absurd (true≢false q)
 mul_unsigned (fin false m e) (fin false n d) p q = round_sign binary64 false (m * up e * (n * up d)) (down e * down d)
 
-pub sum_unsigned : (t : Float) (ws : List Float) → Unsigned t → Unsigned (sum_from t (map magnitude ws))
+pub sum_unsigned : (t : Float) (ws : List Float) → Unsigned t → Unsigned (abs_sum_from t ws)
 sum_unsigned t [] p = p
 sum_unsigned t (w ∷ ws) p = sum_unsigned (t ⊕ magnitude w) ws (add_unsigned t (magnitude w) p (magnitude_unsigned w))
 

@@ -1,5 +1,5 @@
 -- Quantising float weights: steps 1 to 4, in their order, over the width W. ⊕ ⊖ ⊗ ⊘ are single binary64 operations.
-use Rattle.std.specs.Prelude.{Bool, true, false, ◌&&◌, List, [], ◌∷◌, map, ℕ, zero, suc, ◌-◌, min, ℤ, pos, negsuc, Float}
+use Rattle.std.specs.Prelude.{Bool, true, false, ◌&&◌, List, fold, ℕ, zero, suc, ◌-◌, min, ℤ, pos, negsuc, Float, Option, Some, None}
 use Rattle.std.specs.Float.{binary64}
 use Rattle.std.specs.Float.Ieee.{add, sub, mul, div, of_int}
 use Rattle.std.specs.Float.Ieee.Scale.{finite}
@@ -8,7 +8,6 @@ use Rattle.kinds.specs.declared.Shift.{Shift}
 use Rattle.record.specs.Widths.{greatest_shift}
 use Rattle.rule.specs.Numbers.{greatest, accumulator, limit}
 use Rattle.quantising.specs.declared.scaling.Scale.{Scale}
-use Rattle.quantising.specs.declared.scaling.Scale.TheVariants.{Nothing, By}
 
 infixl 6 ◌⊕◌ ◌⊖◌
 infixl 7 ◌⊗◌ ◌⊘◌
@@ -30,14 +29,16 @@ float n = of_int binary64 (pos n)
 
 -- ---- 1. the weights added up, and their magnitudes added up, each from 0.0 on and in the order of their places
 abbrev pub sum_from : Float → List Float → Float
-sum_from t [] = t
-sum_from t (w ∷ ws) = sum_from (t ⊕ w) ws
+sum_from t ws = fold (λ t w. t ⊕ w) t ws
+
+abbrev pub abs_sum_from : Float → List Float → Float
+abs_sum_from t ws = fold (λ t w. t ⊕ magnitude w) t ws
 
 unfoldable pub total : List Float → Float
 total ws = sum_from (float 0) ws
 
 unfoldable pub abs_total : List Float → Float
-abs_total ws = sum_from (float 0) (map magnitude ws)
+abs_total ws = abs_sum_from (float 0) ws
 
 -- ---- 2. the float bias, (1.0 - T) · centre + c; and the divisor, S · M + |float bias| + 1.0
 unfoldable pub float_bias : Float → ℕ → Float → Float
@@ -54,20 +55,24 @@ quotient W d = float (limit W) ⊘ d
 abbrev pub least_shift : ℕ → ℕ → Shift
 least_shift W less = record { 0 = min (min less greatest_shift) (accumulator W - 1) }
 
-unfoldable pub scale_at : ℕ → ℤ → Float → Scale
-scale_at W (pos (suc less)) bias = By (least_shift W less) bias
-scale_at W (pos zero) bias = Nothing
-scale_at W (negsuc n) bias = Nothing
+abbrev pub by : Shift → Float → Option Scale
+by q bias = Some (record { shift = q; bias = bias })
 
-abbrev pub given : Bool → Scale → Scale
-given true scale = scale
-given false scale = Nothing
+unfoldable pub scale_at : ℕ → ℤ → Float → Option Scale
+scale_at W (pos (suc less)) bias = by (least_shift W less) bias
+scale_at W (pos zero) bias = None
+scale_at W (negsuc n) bias = None
+
+-- what there is, where the test holds
+abbrev pub only : {A : Type 0} → Bool → Option A → Option A
+only true o = o
+only false o = None
 
 -- steps 1 to 4: the shift, with the float bias
-unfoldable pub scale_of : ℕ → List Float → ℕ → Float → Scale
+unfoldable pub scale_of : ℕ → List Float → ℕ → Float → Option Scale
 scale_of W ws centre c =
     let T = total ws in
     let S = abs_total ws in
     let bias = float_bias T centre c in
     let d = divisor W S bias in
-    given (finite T && finite S) (given (finite d) (scale_at W (exponent_of (quotient W d)) bias))
+    only (finite T && finite S) (only (finite d) (scale_at W (exponent_of (quotient W d)) bias))

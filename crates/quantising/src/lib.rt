@@ -2,178 +2,85 @@
 // are worked out from the floats' bits.
 #![tactic(auto)]
 
-ghost use Rattle.std.specs.Prelude.{◌≡◌, false, cond, ◌≤◌, length, take};
+ghost use Rattle.std.specs.Prelude.{◌≡◌, false, ◌≤◌, length, take, MatchOption};
 ghost use Rattle.kinds.specs.Widths.{bits_of};
-ghost use Rattle.quantising.specs.Steps.{outcome};
-ghost use Rattle.quantising.specs.Calls.{left, done_with, refused_with, quantised_fitted};
-ghost use Rattle.quantising.specs.Stages.{RoundedTo, as_outcome};
+ghost use Rattle.quantising.specs.Steps.{weights_hold, found, outcome};
+ghost use Rattle.quantising.specs.Calls.{left, quantised_fitted};
+ghost use Rattle.quantising.specs.Stages.{RoundedTo};
 
-use crate::scaling::{Scale, choose_scale};
-use floats::rounding::Integer;
-use kinds::{Answer, Order, Shift, Width};
+use crate::scaling::choose_scale;
+use kinds::{Order, Refusal, Shift, WeightCount, Width};
 
 // What fitting gives: a weight for each of the `order` samples looked back at, and the bias of the samples less their centre. The
 // places past the order are never read.
-#[derive(Clone, Copy)]
+#[derive(Clone, Copy, Debug)]
 pub struct Fitted {
     pub weights: [f64; 32],
     pub bias: f64,
     pub order: Order,
 }
 
-// The configuration's shift and bias; its weights fill the lent slice. Beside a refusal both are 0.
-#[derive(Clone, Copy)]
+// The configuration's shift and bias; its weights fill the lent slice.
+#[derive(Clone, Copy, Debug, PartialEq, Eq, Hash)]
 pub struct Quantised {
-    pub answer: Answer,
     pub shift: Shift,
     pub bias: i64,
 }
 
-// The weights as integers, in the first places; the rest is 0. They count only where all of them fit 32 bits.
-#[derive(Clone, Copy)]
-struct RoundedWeights {
-    fit: bool,
-    weights: [i32; 32],
-}
-
-// What the six steps come to, the weights as above.
+// What the six steps come to, with the weights in the first places.
 #[derive(Clone, Copy)]
 struct Configuration {
-    found: bool,
-    shift: Shift,
-    bias: i64,
+    quantised: Quantised,
     weights: [i32; 32],
 }
 
-// Step 5 of the weights.
-fn round_weights(weights: [f64; 32], order: Order, factor: f64) -> RoundedWeights
-    requires { order.0 ≤ 32 }
-    ensures { RoundedTo factor order.0 weights result.fit result.weights }
+// Step 5 of the weights: the integers in the first places, where all of them fit 32 bits.
+fn round_weights(weights: &[f64], factor: f64) -> Option<[i32; 32]>
+    requires { length weights.now ≤ 32 }
+    ensures { MatchOption result (weights_hold factor weights.now ≡ false) (λ made. RoundedTo factor weights.now made) }
 {
-    let k = order.0;
-    let mut rounded = [0i32; 32];
-    let mut i = 0;
-    while i < k {
-        let integer = floats::rounding::round_away(weights[i] * factor, 32);
-        let Integer::At(w) = integer else {
-            return RoundedWeights {
-                fit: false,
-                weights: rounded,
-            };
-        };
-        rounded[i] = w as i32;
-        i += 1;
+    let mut rounded = [0; 32];
+    for (i, w) in weights.iter().enumerate() {
+        rounded[i] = floats::rounding::round_away(*w * factor, 32)? as i32;
     }
-    RoundedWeights {
-        fit: true,
-        weights: rounded,
-    }
+    Some(rounded)
 }
 
-fn no_configuration() -> Configuration
-    ensures { result.found ≡ false }
+// The six steps.
+fn configure(width: Width, weights: &[f64], centre: u32, centred_bias: f64) -> Option<Configuration>
+    requires { length weights.now ≤ 32 }
+    ensures { let steps = outcome (bits_of width) weights.now centre centred_bias in MatchOption result (steps ≡ None) (λ r. steps ≡ found r.quantised.shift r.quantised.bias (take (length weights.now) r.weights)) }
 {
-    Configuration {
-        found: false,
-        shift: Shift(0),
-        bias: 0,
-        weights: [0i32; 32],
-    }
-}
-
-// The six steps. All is worked out beside the lent slice, which is not touched before the last test.
-fn configure(
-    width: Width,
-    weights: [f64; 32],
-    order: Order,
-    centre: u32,
-    centred_bias: f64,
-) -> Configuration
-    requires { order.0 ≤ 32 }
-    ensures { as_outcome order.0 result ≡ outcome (bits_of width) (take order.0 weights) centre centred_bias }
-{
-    let scale = choose_scale(width, weights, order, centre, centred_bias);
-    let Scale::By(shift, float_bias) = scale else {
-        return no_configuration();
-    };
+    let scale = choose_scale(width, weights, centre, centred_bias)?;
+    let shift = scale.shift;
     let factor = (1u64 << shift.0) as f64;
-    let rounded = round_weights(weights, order, factor);
-    if !rounded.fit {
-        return no_configuration();
+    let rounded = round_weights(weights, factor)?;
+    let bias = floats::rounding::cut(scale.bias * factor, 64)?;
+    if !admission::accumulator::is_admitted(width, bias, &rounded[..weights.len()]) {
+        return None;
     }
-    let cut = floats::rounding::cut(float_bias * factor, 64);
-    let Integer::At(bias) = cut else {
-        return no_configuration();
-    };
-    let integers = rounded.weights;
-    let k = order.0;
-    if !admission::accumulator::is_admitted(width, bias, &integers[..k]) {
-        return no_configuration();
-    }
-    Configuration {
-        found: true,
-        shift,
-        bias,
-        weights: integers,
-    }
+    Some(Configuration {
+        quantised: Quantised { shift, bias },
+        weights: rounded,
+    })
 }
 
-// The weights where every test passed; otherwise the slice stays as it is.
-fn fill(slice: &mut [i32], found: bool, weights: [i32; 32])
-    requires { length slice.old ≤ 32 }
-    ensures { slice.new ≡ cond found (take (length slice.old) weights) slice.old }
-{
-    if !found {
-        return;
-    }
-    let mut i = 0;
-    while i < slice.len() {
-        slice[i] = weights[i];
-        i += 1;
-    }
-}
-
-fn refused(answer: Answer) -> Quantised
-    ensures { result ≡ refused_with answer }
-{
-    Quantised {
-        answer,
-        shift: Shift(0),
-        bias: 0,
-    }
-}
-
-fn hand_back(config: Configuration) -> Quantised
-    ensures { result ≡ cond config.found (done_with config.shift config.bias) (refused_with Answer.NoConfiguration) }
-{
-    if !config.found {
-        return refused(Answer::NoConfiguration);
-    }
-    let shift = config.shift;
-    Quantised {
-        answer: Answer::Done,
-        shift,
-        bias: config.bias,
-    }
-}
-
-// Tests 1, 4 and 6 in this order.
-pub fn quantise(width: Width, fitted: Fitted, centre: u32, weights: &mut [i32]) -> Quantised
+// Tests 1, 4 and 6 in this order. The lent slice is not touched before the last of them.
+pub fn quantise(
+    width: Width,
+    fitted: Fitted,
+    centre: u32,
+    weights: &mut [i32],
+) -> Result<Quantised, Refusal>
     ensures { left result weights.new ≡ quantised_fitted (bits_of width) fitted centre weights.old }
 {
-    let order = fitted.order;
-    if !admission::limits::is_order(order) {
-        return refused(Answer::BadOrder);
-    }
-    if weights.len() != order.0 {
-        return refused(Answer::BadLength);
-    }
-    let floats = fitted.weights;
-    let config = configure(width, floats, order, centre, fitted.bias);
-    let integers = config.weights;
-    fill(weights, config.found, integers);
-    hand_back(config)
+    lent::fitted_answer(fitted.order, WeightCount(weights.len()))?;
+    let floats = &fitted.weights[..weights.len()];
+    let found = configure(width, floats, centre, fitted.bias).ok_or(Refusal::NoConfiguration)?;
+    weights.copy_from_slice(&found.weights[..floats.len()]);
+    Ok(found.quantised)
 }
 
+pub mod centred;
 pub mod lent;
 pub mod scaling;

@@ -2,99 +2,59 @@
 //
 // Each f64 line is one operation at a time, from the left, since float sums and products depend on their order. The exponent is worked
 // out from the quotient's bits.
-ghost use Rattle.std.specs.Prelude.{◌≡◌, take};
+ghost use Rattle.std.specs.Prelude.{◌≡◌, true, false, MatchOption};
+ghost use Rattle.std.specs.Float.Ieee.Scale.{finite};
 ghost use Rattle.kinds.specs.Widths.{bits_of};
-ghost use Rattle.rule.specs.Numbers.{greatest, limit};
-ghost use Rattle.quantising.specs.Scale.{float, total, abs_total, scale_of};
+ghost use Rattle.quantising.specs.Scale as definition;
+ghost use Rattle.quantising.specs.Scale.{scale_of};
 
-use kinds::{Order, Shift, Width};
+use kinds::{Shift, Width};
 use record::MAX_CONV1_DELTA_QUANTIZATION;
+use std::num::nearest_u64_to_f64;
 
 // The shift and the float bias, before anything is rounded or cut.
-#[derive(Clone, Copy)]
-pub enum Scale {
-    Nothing,
-    By(Shift, f64),
+#[derive(Clone, Copy, Debug)]
+pub struct Scale {
+    pub shift: Shift,
+    pub bias: f64,
 }
 
-// T and S of step 1.
-#[derive(Clone, Copy)]
-struct Totals {
-    weight: f64,
-    abs_weight: f64,
-}
-
-// M as f64.
-fn greatest_sample(width: Width) -> f64
-    ensures { result ≡ float (greatest (bits_of width)) }
+// Step 1.
+fn total(weights: &[f64]) -> f64
+    ensures { result ≡ definition.total weights.now }
 {
-    match width {
-        Width::Eight => 255.0,
-        Width::Sixteen => 65535.0,
-        Width::ThirtyTwo => 4294967295.0,
-    }
+    weights.iter().fold(0.0, |sum, w| sum + *w)
 }
 
-// 2^(A-1)-1 as f64, which at A = 64 is 2^63, the nearest.
-fn accumulator_limit(width: Width) -> f64
-    ensures { result ≡ float (limit (bits_of width)) }
+fn abs_total(weights: &[f64]) -> f64
+    ensures { result ≡ definition.abs_total weights.now }
 {
-    match width {
-        Width::Eight => 32767.0,
-        Width::Sixteen => 2147483647.0,
-        Width::ThirtyTwo => 9223372036854775808.0,
-    }
+    weights.iter().fold(0.0, |sum, w| sum + w.abs())
 }
 
-// Step 1. An order above 32 takes the 32 weights that there are.
-fn add_up(weights: [f64; 32], order: Order) -> Totals
-    ensures { (result.weight ≡ total (take order.0 weights)) × (result.abs_weight ≡ abs_total (take order.0 weights)) }
+// None for an infinity or a NaN.
+fn if_finite(x: f64) -> Option<f64>
+    ensures { MatchOption result (finite x ≡ false) (λ y. (y ≡ x) × (finite x ≡ true)) }
 {
-    let mut weight = 0.0f64;
-    let mut abs_weight = 0.0f64;
-    let end = slices::least(order.0, 32);
-    let mut i = 0;
-    while i < end {
-        let w = weights[i];
-        abs_weight = abs_weight + floats::abs(w);
-        weight = weight + w;
-        i += 1;
-    }
-    Totals { weight, abs_weight }
+    x.is_finite().then_some(x)
 }
 
 // Steps 1 to 4. The divisor is at least 1.0 and finite, so the quotient is above zero and has an exponent, which `exponent` gives
-// plus 1074.
-pub fn choose_scale(
-    width: Width,
-    weights: [f64; 32],
-    order: Order,
-    centre: u32,
-    centred_bias: f64,
-) -> Scale
-    ensures { result ≡ scale_of (bits_of width) (take order.0 weights) centre centred_bias }
+// plus 1074. The accumulator's limit at 64 bits is 2^63-1, and the nearest float 2^63.
+pub fn choose_scale(width: Width, weights: &[f64], centre: u32, centred_bias: f64) -> Option<Scale>
+    ensures { result ≡ scale_of (bits_of width) weights.now centre centred_bias }
 {
-    let sums = add_up(weights, order);
-    let total_weight = sums.weight;
-    let total_abs_weight = sums.abs_weight;
-    if !floats::is_finite(total_weight) {
-        return Scale::Nothing;
-    }
-    if !floats::is_finite(total_abs_weight) {
-        return Scale::Nothing;
-    }
-    let float_bias = (1.0 - total_weight) * (centre as f64) + centred_bias;
-    let divisor = total_abs_weight * greatest_sample(width) + floats::abs(float_bias) + 1.0;
-    if !floats::is_finite(divisor) {
-        return Scale::Nothing;
-    }
-    let x = accumulator_limit(width) / divisor;
-    let e = floats::exponent(x);
-    if e < 1075 {
-        return Scale::Nothing;
-    }
-    let recorded = slices::least((e - 1075) as usize, MAX_CONV1_DELTA_QUANTIZATION as usize);
-    let accumulated = (admission::limits::accumulator_bits(width) - 1) as usize;
-    let quantization = slices::least(recorded, accumulated) as u32;
-    Scale::By(Shift(quantization), float_bias)
+    let sum = if_finite(total(weights))?;
+    let abs_sum = if_finite(abs_total(weights))?;
+    let bias = (1.0 - sum) * f64::from(centre) + centred_bias;
+    let greatest = nearest_u64_to_f64(admission::limits::greatest_sample(width));
+    let divisor = if_finite(abs_sum * greatest + bias.abs() + 1.0)?;
+    let limit = nearest_u64_to_f64(admission::limits::accumulator_limit(width));
+    let less = floats::exponent(limit / divisor).checked_sub(1075)?;
+    let recorded = less.min(u64::from(MAX_CONV1_DELTA_QUANTIZATION));
+    let shift = recorded.min(u64::from(admission::limits::accumulator_bits(width) - 1));
+    Some(Scale {
+        shift: Shift(shift as u32),
+        bias,
+    })
 }

@@ -1,48 +1,22 @@
--- What an answer's number says: 0 is done, any other leaves things as they were; and what holds of a record that no test refuses.
+-- What holds of a record that no test refuses.
 use mathlib.Core.Bool.{Bool, true, false, not, ◌||◌, ◌&&◌}
 use mathlib.Core.Path.{◌≡◌, refl}
 use Prim.Native.Nat.{ℕ, ◌+◌, ◌-◌, ◌*◌, ◌/◌, ◌^◌, ◌≤◌, ◌<◌}
 use native.Mathlib.Omega.{arith}
 use borrow.Author.Tests.{leb-true, ltb-false, eqb-false}
 use lib.Dec.{leb, ltb, eqb}
-use Rattle.kinds.specs.declared.Answer.{Answer}
-use Rattle.kinds.specs.declared.Answer.TheVariants.{Done, BadOrder, BadShift, Overflows, BadLength, TooFewSamples, NoConfiguration, BytesEnd, UnknownVariant, BadRecord, UnfitField, NoRoom}
-use Rattle.kinds.specs.Answers.{number_of, refuse, when_done}
+use Rattle.std.specs.Prelude.{Ok, Err}
+use Rattle.std.specs.Result.{result_and}
+use Rattle.kinds.specs.Answers.{Answer, Done, refuse}
+use Rattle.kinds.specs.declared.Refusal.TheVariants.{BadOrder, BadRecord, UnfitField, NoRoom}
 use Rattle.record.specs.declared.DeltaEncoding.{DeltaEncoding}
 use Rattle.record.specs.declared.DeltaEncoding.TheVariants.{NoOp, Consecutive, Lookback, Conv1}
+use Rattle.record.specs.declared.DeltaRecord.{DeltaRecord}
 use Rattle.record.specs.Format.{bits_of, weights_at, logs_malformed}
 use Rattle.record.specs.Widths.{window_bits, state_bits, weight_bits, greatest, greatest_window_log}
-use Rattle.record.specs.Writing.{misordered, malformed, logs_unfit, unfit, too_long, writing_refusal}
+use Rattle.record.specs.Writing.{misordered, malformed, logs_unfit, unfit, too_long, writing_refusal, write_answer}
 use Rattle.record.proofs.Put.{weights_total}
 use Rattle.rule.specs.Refusals.{order_fits}
-
-pub number_done : (a : Answer) → number_of a ≡ 0 → a ≡ Done
-number_done Done e = refl
-number_done BadOrder e = absurd (omega arith)
-number_done BadShift e = absurd (omega arith)
-number_done Overflows e = absurd (omega arith)
-number_done BadLength e = absurd (omega arith)
-number_done TooFewSamples e = absurd (omega arith)
-number_done NoConfiguration e = absurd (omega arith)
-number_done BytesEnd e = absurd (omega arith)
-number_done UnknownVariant e = absurd (omega arith)
-number_done BadRecord e = absurd (omega arith)
-number_done UnfitField e = absurd (omega arith)
-number_done NoRoom e = absurd (omega arith)
-
-pub when_refused : {A : Type 0} (a : Answer) (done refused : A) → (number_of a ≡ 0 → ⊥) → when_done a done refused ≡ refused
-when_refused Done d r n = absurd (n refl)
-when_refused BadOrder d r n = refl
-when_refused BadShift d r n = refl
-when_refused Overflows d r n = refl
-when_refused BadLength d r n = refl
-when_refused TooFewSamples d r n = refl
-when_refused NoConfiguration d r n = refl
-when_refused BytesEnd d r n = refl
-when_refused UnknownVariant d r n = refl
-when_refused BadRecord d r n = refl
-when_refused UnfitField d r n = refl
-when_refused NoRoom d r n = refl
 
 -- a record that is done has passed all four tests
 pub record Passed (encoding : DeltaEncoding) (room : ℕ) : Type 0 where
@@ -63,6 +37,20 @@ unfolding writing_refusal
 passed encoding room e =
     let p = four (misordered encoding) (malformed encoding) (unfit encoding) (too_long encoding room) e in
     record { ordered = p.0; formed = p.1; fitting = p.2; roomy = p.3 }
+
+-- what is known where writing gave bits: no test refused, and they are the record's
+pub record Answered (delta : DeltaRecord) (room n : ℕ) : Type 0 where
+  pub done : writing_refusal delta.encoding room ≡ Done
+  pub passed : Passed delta.encoding room
+  pub bits : n ≡ bits_of delta.encoding
+
+pub answered : (delta : DeltaRecord) (room : ℕ) {n : ℕ} → write_answer delta room ≡ Ok n → Answered delta room n
+unfolding write_answer
+answered delta room {n} e = go (writing_refusal delta.encoding room) refl e
+  where
+    go : (a : Answer) → writing_refusal delta.encoding room ≡ a → result_and a (Ok (bits_of delta.encoding)) ≡ Ok n → Answered delta room n
+    go (Ok u) d f = record { done = d; passed = passed delta.encoding room d; bits = cc }
+    go (Err r) d f = absurd (let z : ◌≡◌ {A = ℕ} 0 1 = cc in omega arith)
 
 neither : (a b : Bool) → (a || b) ≡ false → (a ≡ false) × (b ≡ false)
 neither true b e = absurd (let z : ◌≡◌ {A = ℕ} 0 1 = cc in omega arith)

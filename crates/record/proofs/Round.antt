@@ -9,9 +9,9 @@ use borrow.Author.Tests.{le-leb, ltb-false}
 use lib.Dec.{eqb}
 use lib.IntN.{ℤ}
 use lib.ListN.{length}
+use Rattle.std.specs.Prelude.{Ok}
 use Rattle.bits.specs.Fields.{with_field, holds}
 use Rattle.bits.proofs.Fields.{put_length, field_outside}
-use Rattle.kinds.specs.declared.Answer.TheVariants.{Done}
 use Rattle.record.specs.declared.DeltaEncoding.{DeltaEncoding}
 use Rattle.record.specs.declared.DeltaEncoding.TheVariants.{NoOp, Consecutive, Lookback, Conv1}
 use Rattle.record.specs.declared.DeltaRecord.{DeltaRecord}
@@ -21,7 +21,7 @@ use Rattle.record.specs.Records.{kept_weights, kept, Machine}
 use Rattle.record.specs.Widths.{variant_bits, order_bits, flag_bits, window_bits, state_bits, shift_bits, bias_bits, count_bits, greatest, greatest_shift}
 use Rattle.record.specs.Writing.{flag_value, stored, put_record, unused, written, write_answer, bytes_after}
 use Rattle.record.proofs.Put.{put_all_length, Fit, Stand, put_stand, stand_kept, stand_read}
-use Rattle.record.proofs.Refusals.{Passed, passed, order_range, window_fits, enough_room}
+use Rattle.record.proofs.Refusals.{Passed, answered, order_range, window_fits, enough_room}
 use Rattle.record.proofs.Signed.{lowered_raised, raised_fits}
 use Rattle.record.proofs.Weights.{stored_read, weights_fit}
 
@@ -128,14 +128,16 @@ read_written (Conv1 shift bias order) ws bytes p m =
     (ap (given e (kept_weights e ws)) bits)
 
 -- the record is read back as the format keeps it
-pub read_after_write : (delta : DeltaRecord) (bytes : List ℕ) → Machine delta → (write_answer delta (length bytes)).answer ≡ Done →
-    read_record (bytes_after delta bytes) true ≡ record { answer = Done; delta = kept delta; bits = (write_answer delta (length bytes)).bits }
-unfolding read_record write_answer bytes_after
-read_after_write delta bytes m d = rw d (read_written delta.encoding delta.weights bytes (passed delta.encoding (length bytes) d) m)
+pub read_after_write : (delta : DeltaRecord) (bytes : List ℕ) (bits : ℕ) → Machine delta → write_answer delta (length bytes) ≡ Ok bits →
+    read_record (bytes_after delta bytes) true ≡ Ok (record { delta = kept delta; bits = bits })
+unfolding read_record bytes_after
+read_after_write delta bytes bits m d =
+    let a = answered delta (length bytes) d in
+    rw (a.done, a.bits) (read_written delta.encoding delta.weights bytes a.passed m)
 
 -- and so the very record, where its array holds 0 at the places that the format drops
-pub same_record : (delta : DeltaRecord) (bytes : List ℕ) → Machine delta → kept delta ≡ delta → (write_answer delta (length bytes)).answer ≡ Done →
-    read_record (bytes_after delta bytes) true ≡ record { answer = Done; delta = delta; bits = (write_answer delta (length bytes)).bits }
-same_record delta bytes m e d =
-    read_after_write delta bytes m d
-    ∙ ap (λ (x : DeltaRecord). record { answer = Done; delta = x; bits = (write_answer delta (length bytes)).bits }) e
+pub same_record : (delta : DeltaRecord) (bytes : List ℕ) (bits : ℕ) → Machine delta → kept delta ≡ delta → write_answer delta (length bytes) ≡ Ok bits →
+    read_record (bytes_after delta bytes) true ≡ Ok (record { delta = delta; bits = bits })
+same_record delta bytes bits m e d =
+    read_after_write delta bytes bits m d
+    ∙ ap (λ (x : DeltaRecord). Ok (record { delta = x; bits = bits })) e

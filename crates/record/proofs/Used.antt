@@ -1,67 +1,68 @@
 -- What the reader never does: use bits that are not there, or refuse an order that five bits can hold.
 use mathlib.Core.Bool.{Bool, true, false}
 use mathlib.Core.List.{List}
-use mathlib.Core.Path.{◌≡◌, refl, sym, ◌∙◌}
+use mathlib.Core.Path.{◌≡◌, refl}
 use Prim.Native.Nat.{ℕ, ◌+◌, ◌*◌, ◌≤◌}
 use native.Mathlib.Omega.{arith}
 use borrow.Author.Tests.{le-leb, leb-true}
 use lib.Dec.{eqb}
 use lib.ListN.{length}
+use Rattle.std.specs.Prelude.{Result, Ok, Err, IfOk}
 use Rattle.bits.specs.Fields.{field_at, holds}
 use Rattle.bits.proofs.Fields.{field_lt}
-use Rattle.kinds.specs.declared.Answer.{Answer}
-use Rattle.kinds.specs.declared.Answer.TheVariants.{Done, BadOrder, BytesEnd, UnknownVariant, BadRecord}
+use Rattle.kinds.specs.declared.Refusal.{Refusal}
+use Rattle.kinds.specs.declared.Refusal.TheVariants.{BadOrder, BytesEnd, UnknownVariant, BadRecord}
 use Rattle.record.specs.declared.DeltaEncoding.{DeltaEncoding}
 use Rattle.record.specs.declared.Reading.{Reading}
 use Rattle.record.specs.Format.{weight_fields, total_width, logs_malformed}
-use Rattle.record.specs.Reading.{refused, read_weights, read_consecutive, read_lookback, read_conv1, read_variant, read_order, read_record}
+use Rattle.record.specs.Reading.{read_weights, read_consecutive, read_lookback, read_conv1, read_variant, read_order, read_record}
 use Rattle.record.specs.Widths.{variant_bits, order_bits, window_bits, state_bits, shift_bits, bias_bits, count_bits}
-use Rattle.record.proofs.Walk.{by_test, by_reading, misordered_not_done}
+use Rattle.record.proofs.Walk.{by_test, by_refusal, by_reading}
 
 -- r, read from bytes, uses bits that are there, and is not the refusal 1
-pub record Sound (bytes : List ℕ) (r : Reading) : Type 0 where
-  pub there : r.bits ≤ 8 * length bytes
-  pub ordered : r.answer ≡ BadOrder → ⊥
+pub record Sound (bytes : List ℕ) (r : Result Reading Refusal) : Type 0 where
+  pub there : IfOk r (λ x. x.bits ≤ 8 * length bytes)
+  pub ordered : r ≡ Err BadOrder → ⊥
 
 module _ (bytes : List ℕ) where
-  abbrev P : Reading → Type 0
+  abbrev P : Result Reading Refusal → Type 0
   P = Sound bytes
 
-  refused_sound : (a : Answer) → (a ≡ BadOrder → ⊥) → P (refused a)
-  refused_sound a n = record { there = omega arith; ordered = n }
+  refused_sound : (r : Refusal) → (◌≡◌ {A = Result Reading Refusal} (Err r) (Err BadOrder) → ⊥) → P (Err r)
+  refused_sound r n = record { there = tt; ordered = n }
 
-  short : P (refused BytesEnd)
+  short : P (Err BytesEnd)
   short = refused_sound BytesEnd (λ e. let z : ◌≡◌ {A = ℕ} 0 1 = cc in omega arith)
 
-  bad : P (refused BadRecord)
+  bad : P (Err BadRecord)
   bad = refused_sound BadRecord (λ e. let z : ◌≡◌ {A = ℕ} 0 1 = cc in omega arith)
 
   -- a record whose last field was there
-  given_sound : (at width : ℕ) (r : Reading) → r.answer ≡ Done → r.bits ≡ at + width → holds bytes at width ≡ true → P r
-  given_sound at width r d e h =
+  given_sound : (at width : ℕ) (x : Reading) → x.bits ≡ at + width → holds bytes at width ≡ true → P (Ok x)
+  given_sound at width x e h =
       record {
         there = omega (arith, leb-true (at + width) (8 * length bytes) h);
-        ordered = λ o. misordered_not_done (sym o ∙ d);
+        ordered = λ o. let z : ◌≡◌ {A = ℕ} 0 1 = cc in omega arith;
       }
 
   consecutive_sound : (at : ℕ) → P (read_consecutive bytes at)
   unfolding read_consecutive
   consecutive_sound at =
       by_reading P bytes at _ _ _ (λ _.
-      by_test P (eqb (field_at bytes at order_bits) 0) _ _ (λ _. bad) (λ _.
-      by_reading P bytes _ _ _ _ (given_sound _ _ _ refl refl) short)) short
+      by_refusal P (eqb (field_at bytes at order_bits) 0) _ _ bad (λ _.
+      by_reading P bytes _ _ _ _ (given_sound _ _ _ refl) short)) short
 
   lookback_sound : (at : ℕ) → P (read_lookback bytes at)
   unfolding read_lookback
   lookback_sound at =
       by_reading P bytes at _ _ _ (λ _.
       by_reading P bytes _ _ _ _ (λ _.
-      by_test P (logs_malformed (field_at bytes at window_bits + 1) (field_at bytes (at + window_bits) state_bits)) _ _ (λ _. bad) (λ _.
-      by_reading P bytes _ _ _ _ (given_sound _ _ _ refl refl) short)) short) short
+      by_refusal P (logs_malformed (field_at bytes at window_bits + 1) (field_at bytes (at + window_bits) state_bits)) _ _ bad (λ _.
+      by_reading P bytes _ _ _ _ (given_sound _ _ _ refl) short)) short) short
 
   weights_sound : (at : ℕ) (encoding : DeltaEncoding) (order : ℕ) → P (read_weights bytes at encoding order)
   unfolding read_weights
-  weights_sound at encoding order = by_test P (holds bytes at (total_width (weight_fields order))) _ _ (given_sound at (total_width (weight_fields order)) _ refl refl) (λ _. short)
+  weights_sound at encoding order = by_test P (holds bytes at (total_width (weight_fields order))) _ _ (given_sound at (total_width (weight_fields order)) _ refl) (λ _. short)
 
   conv1_sound : (at : ℕ) → P (read_conv1 bytes at)
   unfolding read_conv1
@@ -79,7 +80,7 @@ module _ (bytes : List ℕ) where
   variant_sound =
       let v = field_at bytes 0 variant_bits in
       by_reading P bytes 0 _ _ _ (λ h.
-      by_test P (eqb v 0) _ _ (λ _. given_sound 0 variant_bits _ refl refl h) (λ _.
+      by_test P (eqb v 0) _ _ (λ _. given_sound 0 variant_bits _ refl h) (λ _.
       by_test P (eqb v 1) _ _ (λ _. consecutive_sound _) (λ _.
       by_test P (eqb v 2) _ _ (λ _. lookback_sound _) (λ _.
       by_test P (eqb v 3) _ _ (λ _. conv1_sound _) (λ _.
@@ -90,7 +91,7 @@ module _ (bytes : List ℕ) where
   unfolding read_order
   order_sound =
       by_reading P bytes 0 _ _ _ (λ h.
-      by_test P (eqb (field_at bytes 0 order_bits) 0) _ _ (λ _. given_sound 0 order_bits _ refl refl h) (λ _. given_sound 0 order_bits _ refl refl h))
+      by_test P (eqb (field_at bytes 0 order_bits) 0) _ _ (λ _. given_sound 0 order_bits _ refl h) (λ _. given_sound 0 order_bits _ refl h))
       short
 
 pub sound : (bytes : List ℕ) (variants : Bool) → Sound bytes (read_record bytes variants)

@@ -1,11 +1,11 @@
 -- The weights as they are stored: read in the order of the loops, one behind the other, and the two ways between them and their numbers as inverses.
-use mathlib.Core.List.{List, [], ◌∷◌, ◌++◌, append_assoc, map, map-append}
+use mathlib.Core.List.{List, [], ◌∷◌, ◌++◌, append-nil, append_assoc, map, map-append}
 use mathlib.Core.Path.{◌≡◌, refl, sym, ap, ap₂, ◌∙◌}
 use Prim.Native.Nat.{ℕ, zero, suc, ◌+◌, ◌-◌, ◌*◌, ◌^◌, ◌≤◌, ◌<◌}
 use native.Mathlib.Numerals.{add-one}
 use native.Mathlib.Omega.{arith}
 use lib.IntN.{ℤ, pos}
-use lib.ListN.{length, get_or, set, take, replicate, length-append, length-map}
+use lib.ListN.{length, get_or, set, take, drop, replicate, length-append, length-map}
 use lib.Seq.{set_at, take_at}
 use lib.Signed.{mag}
 use Rattle.bits.specs.Fields.{field_at}
@@ -14,15 +14,20 @@ use Rattle.record.specs.Reading.{in_array, numbers_at, weights_in}
 use Rattle.record.specs.Signed.{raised, lowered}
 use Rattle.record.specs.Widths.{weight_bits}
 use Rattle.record.specs.Writing.{stored_weights}
+use Rattle.rule.proofs.Filling.{drop-replicate, take-replicate}
 use Rattle.record.proofs.Put.{Fit}
 use Rattle.record.proofs.Signed.{raised_lowered, lowered_raised, raised_fits}
 
+-- weights in the first of n places, whose others are 0; the record's array has 32
+abbrev pub padded : ℕ → List ℤ → List ℤ
+padded n ws = ws ++ replicate (n - length ws) (pos 0)
+
 -- one weight more takes the place of the first 0
-array_set : (ws : List ℤ) (w : ℤ) → length ws < 32 → set (in_array ws) (length ws) w ≡ in_array (ws ++ w ∷ [])
-array_set ws w h =
-    let e : 32 - length ws ≡ suc (32 - length (ws ++ w ∷ [])) = omega (arith, length-append ws (w ∷ [])) in
-    let rest = replicate (32 - length (ws ++ w ∷ [])) (pos 0) in
-    ap (λ (n : ℕ). set (ws ++ replicate n (pos 0)) (length ws) w) e ∙ set_at ws (pos 0) rest w (length ws) refl ∙ sym (append_assoc ws (w ∷ []) rest)
+array_set : (n : ℕ) (ws : List ℤ) (w : ℤ) → length ws < n → set (padded n ws) (length ws) w ≡ padded n (ws ++ w ∷ [])
+array_set n ws w h =
+    let e : n - length ws ≡ suc (n - length (ws ++ w ∷ [])) = omega (arith, length-append ws (w ∷ [])) in
+    let rest = replicate (n - length (ws ++ w ∷ [])) (pos 0) in
+    ap (λ (m : ℕ). set (ws ++ replicate m (pos 0)) (length ws) w) e ∙ set_at ws (pos 0) rest w (length ws) refl ∙ sym (append_assoc ws (w ∷ []) rest)
 
 numbers_length : (bytes : List ℕ) (at n : ℕ) → length (numbers_at bytes at (weight_fields n)) ≡ n
 numbers_length bytes at zero = refl
@@ -38,15 +43,31 @@ numbers_more bytes at (suc n) =
     ap (λ (l : List ℕ). field_at bytes at weight_bits ∷ l) (numbers_more bytes (at + weight_bits) n)
     ∙ ap (λ (p : ℕ). field_at bytes at weight_bits ∷ numbers_at bytes (at + weight_bits) (weight_fields n) ++ field_at bytes p weight_bits ∷ []) e
 
-pub array_more : (bytes : List ℕ) (at i : ℕ) → i < 32 →
-    set (in_array (weights_in bytes at i)) i (lowered 31 (field_at bytes (at + weight_bits * i) weight_bits)) ≡ in_array (weights_in bytes at (i + 1))
-array_more bytes at i h =
+pub array_more : (n : ℕ) (bytes : List ℕ) (at i : ℕ) → i < n →
+    set (padded n (weights_in bytes at i)) i (lowered 31 (field_at bytes (at + weight_bits * i) weight_bits)) ≡ padded n (weights_in bytes at (i + 1))
+array_more n bytes at i h =
     let v = field_at bytes (at + weight_bits * i) weight_bits in
     let ws = weights_in bytes at i in
-    ap (λ (n : ℕ). set (in_array ws) n (lowered 31 v)) (sym (weights_length bytes at i))
-    ∙ array_set ws (lowered 31 v) (omega (arith, weights_length bytes at i))
-    ∙ ap in_array (sym (map-append (lowered 31) (numbers_at bytes at (weight_fields i)) (v ∷ [])) ∙ ap (map (lowered 31)) (sym (numbers_more bytes at i)))
-    ∙ ap (λ (n : ℕ). in_array (weights_in bytes at n)) (sym (add-one i))
+    ap (λ (m : ℕ). set (padded n ws) m (lowered 31 v)) (sym (weights_length bytes at i))
+    ∙ array_set n ws (lowered 31 v) (omega (arith, weights_length bytes at i))
+    ∙ ap (padded n) (sym (map-append (lowered 31) (numbers_at bytes at (weight_fields i)) (v ∷ [])) ∙ ap (map (lowered 31)) (sym (numbers_more bytes at i)))
+    ∙ ap (λ (m : ℕ). padded n (weights_in bytes at m)) (sym (add-one i))
+
+-- before the first weight
+pub array_begun : (n : ℕ) → n ≤ 32 → take n (in_array []) ≡ padded n []
+array_begun n h =
+    let e : n ≡ n - 0 = omega arith in
+    take-replicate 32 n (pos 0) h ∙ ap (λ (m : ℕ). replicate m (pos 0)) e
+
+-- all n places filled, and behind them the places of an array of 0 that no weight took
+pub array_filled : (bytes : List ℕ) (at n : ℕ) → padded n (weights_in bytes at n) ++ drop n (in_array []) ≡ in_array (weights_in bytes at n)
+array_filled bytes at n =
+    let ws = weights_in bytes at n in
+    let none : n - length ws ≡ 0 = omega (arith, weights_length bytes at n) in
+    let left : 32 - n ≡ 32 - length ws = omega (arith, weights_length bytes at n) in
+    ap (λ (m : ℕ). (ws ++ replicate m (pos 0)) ++ drop n (in_array [])) none
+    ∙ ap (λ (l : List ℤ). l ++ drop n (in_array [])) (append-nil ws)
+    ∙ ap (λ (l : List ℤ). ws ++ l) (drop-replicate 32 n (pos 0) ∙ ap (λ (m : ℕ). replicate m (pos 0)) left)
 
 -- the weights read are stored as the numbers that they were read from
 raised_all : (numbers : List ℕ) → map (raised 31) (map (lowered 31) numbers) ≡ numbers

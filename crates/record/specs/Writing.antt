@@ -1,13 +1,13 @@
 -- What writing a delta record answers, and the buffer at exit: the tests 1, 9, 10 and 11, and the same fields that are read.
-use Rattle.std.specs.Prelude.{Bool, false, cond, not, ◌||◌, List, [], ◌∷◌, map, ℕ, ◌+◌, ◌-◌, ◌/◌, ◌%◌, eqb, ltb, ℤ, length, take}
+use Rattle.std.specs.Prelude.{Bool, false, cond, not, ◌||◌, List, [], ◌∷◌, map, ℕ, ◌+◌, ◌-◌, ◌/◌, ◌%◌, eqb, ltb, ℤ, length, take, Result, Ok}
+use Rattle.std.specs.Result.{result_and}
 use Rattle.bits.specs.Fields.{with_field}
-use Rattle.kinds.specs.Answers.{refuse, when_done}
-use Rattle.kinds.specs.declared.Answer.{Answer}
-use Rattle.kinds.specs.declared.Answer.TheVariants.{Done, BadOrder, BadRecord, UnfitField, NoRoom}
+use Rattle.kinds.specs.Answers.{Answer, Done, refuse, when_done}
+use Rattle.kinds.specs.declared.Refusal.{Refusal}
+use Rattle.kinds.specs.declared.Refusal.TheVariants.{BadOrder, BadRecord, UnfitField, NoRoom}
 use Rattle.record.specs.declared.DeltaEncoding.{DeltaEncoding}
 use Rattle.record.specs.declared.DeltaEncoding.TheVariants.{NoOp, Consecutive, Lookback, Conv1}
 use Rattle.record.specs.declared.DeltaRecord.{DeltaRecord}
-use Rattle.record.specs.declared.Writing.{Writing}
 use Rattle.record.specs.Format.{fields_of, bits_of, logs_malformed}
 use Rattle.record.specs.Signed.{raised}
 use Rattle.record.specs.Widths.{order_bits, window_bits, state_bits, greatest, greatest_shift}
@@ -79,13 +79,9 @@ writing_refusal encoding room =
     (refuse (unfit encoding) UnfitField
     (refuse (too_long encoding room) NoRoom Done)))
 
--- what writing answers
-unfoldable pub write_answer : DeltaRecord → ℕ → Writing
-write_answer delta room =
-    record {
-      answer = writing_refusal delta.encoding room;
-      bits = when_done (writing_refusal delta.encoding room) (bits_of delta.encoding) 0;
-    }
+-- what writing answers: the bits written
+unfoldable pub write_answer : DeltaRecord → ℕ → Result ℕ Refusal
+write_answer delta room = result_and (writing_refusal delta.encoding room) (Ok (bits_of delta.encoding))
 
 -- the buffer at exit: as it was after a refusal
 unfoldable pub bytes_after : DeltaRecord → List ℕ → List ℕ

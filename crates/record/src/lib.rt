@@ -2,9 +2,9 @@
 #![tactic(auto)]
 
 ghost use Rattle.std.specs.Prelude.{◌≡◌};
-ghost use Rattle.record.specs.Reading.{given, refused};
+ghost use Rattle.record.specs.Reading.{given, nothing};
 
-use kinds::{Answer, Order, Shift};
+use kinds::{Order, Refusal, Shift};
 
 // Field widths, in bits.
 pub const BITS_TO_ENCODE_DELTA_ENCODING_VARIANT: usize = 4;
@@ -55,7 +55,7 @@ pub const MAX_CONV1_DELTA_QUANTIZATION: u32 = 31;
 // A window's log is stored less 1.
 pub const MAX_WINDOW_N_LOG_FIELD: u32 = 32;
 
-#[derive(Clone, Copy)]
+#[derive(Clone, Copy, Debug, PartialEq, Eq, Hash)]
 pub enum DeltaEncoding {
     NoOp,
     Consecutive {
@@ -74,49 +74,37 @@ pub enum DeltaEncoding {
     },
 }
 
-// Conv1's weights stand beside the encoding, in the first `order` places; for every other encoding none is used.
-#[derive(Clone, Copy)]
+// Conv1's weights stand beside the encoding, in the first `order` places; for every other encoding none is used. They are no field of Conv1,
+// since the theorems say of every encoding which of the 32 the format keeps.
+#[derive(Clone, Copy, Debug, PartialEq, Eq, Hash)]
 pub struct DeltaRecord {
     pub encoding: DeltaEncoding,
     pub weights: [i32; 32],
 }
 
-// What reading answers: beside a refusal the empty record and 0 bits.
-#[derive(Clone, Copy)]
+// A record that was read, and how many bits it took.
+#[derive(Clone, Copy, Debug, PartialEq, Eq, Hash)]
 pub struct Reading {
-    pub answer: Answer,
     pub delta: DeltaRecord,
     pub bits: usize,
 }
 
-pub fn refuse(answer: Answer) -> Reading
-    ensures { result ≡ refused answer }
-{
-    let delta = DeltaRecord {
-        encoding: DeltaEncoding::NoOp,
-        weights: [0i32; 32],
-    };
-    Reading {
-        answer,
-        delta,
-        bits: 0,
+// What stands for a reading where there is none and numbers are asked for: the empty record, and no bits.
+impl Default for Reading {
+    ghost is_default = { λ reading. reading ≡ nothing };
+
+    fn default() -> Self {
+        let delta = DeltaRecord {
+            encoding: DeltaEncoding::NoOp,
+            weights: [0i32; 32],
+        };
+        Reading { delta, bits: 0 }
     }
 }
 
-pub fn give(encoding: DeltaEncoding, weights: [i32; 32], bits: usize) -> Reading
+pub fn give(encoding: DeltaEncoding, weights: [i32; 32], bits: usize) -> Result<Reading, Refusal>
     ensures { result ≡ given encoding weights bits }
 {
     let delta = DeltaRecord { encoding, weights };
-    Reading {
-        answer: Answer::Done,
-        delta,
-        bits,
-    }
-}
-
-// What writing answers: beside a refusal 0 bits.
-#[derive(Clone, Copy)]
-pub struct Writing {
-    pub answer: Answer,
-    pub bits: usize,
+    Ok(Reading { delta, bits })
 }

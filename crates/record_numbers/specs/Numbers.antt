@@ -1,5 +1,8 @@
 -- A record as plain numbers, and plain numbers as a record.
-use Rattle.std.specs.Prelude.{Bool, false, cond, List, ℕ, eqb, ℤ, pos}
+use Rattle.std.specs.Prelude.{Bool, false, cond, List, ℕ, eqb, ltb, ℤ, pos, Result, Ok}
+use Rattle.kinds.specs.Answers.{refuse}
+use Rattle.kinds.specs.declared.Refusal.{Refusal}
+use Rattle.kinds.specs.declared.Refusal.TheVariants.{UnknownVariant}
 use Rattle.record.specs.declared.DeltaEncoding.{DeltaEncoding}
 use Rattle.record.specs.declared.DeltaEncoding.TheVariants.{NoOp, Consecutive, Lookback, Conv1}
 use Rattle.record.specs.declared.DeltaRecord.{DeltaRecord}
@@ -33,6 +36,10 @@ encoding_of n =
     (cond (eqb n.variant 1) (Consecutive n.order n.secondary_uses_delta)
     (cond (eqb n.variant 2) (Lookback n.window_n_log n.state_n_log n.secondary_uses_delta)
     (Conv1 n.quantization n.bias n.order)))
+
+-- 8 for any other variant
+abbrev pub known_encoding : Numbers → Result DeltaEncoding Refusal
+known_encoding n = refuse (ltb 3 n.variant) UnknownVariant (Ok (encoding_of n))
 
 -- Conv1's weights in the record's array; no other variant has any
 abbrev pub weights_of : ℕ → List ℤ → List ℤ

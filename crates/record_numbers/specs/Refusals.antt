@@ -1,8 +1,11 @@
 -- What of plain numbers is refused before there is a record.
-use Rattle.std.specs.Prelude.{cond, not, ℕ, eqb, ltb}
-use Rattle.kinds.specs.declared.Answer.{Answer}
-use Rattle.kinds.specs.declared.Answer.TheVariants.{Done, BadOrder, BadLength, UnknownVariant}
-use Rattle.kinds.specs.Answers.{refuse}
+use Rattle.std.specs.Prelude.{cond, not, ℕ, eqb, ltb, Result, Ok}
+use Rattle.std.specs.Result.{result_and}
+use Rattle.kinds.specs.Answers.{Answer, Done, refuse}
+use Rattle.kinds.specs.declared.Refusal.{Refusal}
+use Rattle.kinds.specs.declared.Refusal.TheVariants.{BadOrder, BadLength, UnknownVariant}
+use Rattle.record.specs.declared.DeltaEncoding.{DeltaEncoding}
+use Rattle.record_numbers.specs.Numbers.{encoding_of}
 use Rattle.record_numbers.specs.declared.numbers.Numbers.{Numbers}
 use Rattle.rule.specs.Refusals.{order_fits}
 
@@ -15,3 +18,7 @@ unfoldable pub numbers_refusal : Numbers → ℕ → Answer
 numbers_refusal n weights =
     refuse (ltb 3 n.variant) UnknownVariant
     (cond (eqb n.variant 3) (conv1_refusal n.order.0 weights) Done)
+
+-- the encoding, where no test refuses it
+abbrev pub tested_encoding : Numbers → ℕ → Result DeltaEncoding Refusal
+tested_encoding n weights = result_and (numbers_refusal n weights) (Ok (encoding_of n))

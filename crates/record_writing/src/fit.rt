@@ -4,7 +4,7 @@ ghost use Rattle.record.specs.Format.{bits_of, logs_malformed};
 ghost use Rattle.record.specs.Writing.{misordered, malformed, logs_unfit, unfit, writing_refusal};
 ghost use Rattle.rule.specs.Refusals.{order_fits};
 
-use kinds::{Answer, Order};
+use kinds::{Order, Refusal};
 use record::{
     AFTER_N_WEIGHTS, AFTER_ORDER, AFTER_STATE, AFTER_VARIANT, BITS_TO_ENCODE_DELTA_CONV_WEIGHT,
     BITS_TO_ENCODE_FLAG, DeltaEncoding, MAX_CONSECUTIVE_DELTA_ORDER, MAX_CONV1_DELTA_ORDER,
@@ -15,46 +15,20 @@ use record::{
 fn order_out_of_range(order: Order) -> bool
     ensures { result ≡ not (order_fits order.0) }
 {
-    let k = order.0;
-    if k == 0 {
-        return true;
-    }
-    if k > MAX_CONV1_DELTA_ORDER {
-        return true;
-    }
-    false
+    order.0 == 0 || order.0 > MAX_CONV1_DELTA_ORDER
 }
 
 // Test 1, for Conv1 alone.
 fn is_misordered(encoding: DeltaEncoding) -> bool
     ensures { result ≡ misordered encoding }
 {
-    match encoding {
-        DeltaEncoding::NoOp => false,
-        DeltaEncoding::Consecutive {
-            order: _,
-            secondary_uses_delta: _,
-        } => false,
-        DeltaEncoding::Lookback {
-            window_n_log: _,
-            state_n_log: _,
-            secondary_uses_delta: _,
-        } => false,
-        DeltaEncoding::Conv1 {
-            quantization: _,
-            bias: _,
-            order,
-        } => order_out_of_range(order),
-    }
+    matches!(encoding, DeltaEncoding::Conv1 { order, .. } if order_out_of_range(order))
 }
 
 fn logs_malformed(window_n_log: u32, state_n_log: u32) -> bool
     ensures { result ≡ logs_malformed window_n_log state_n_log }
 {
-    if window_n_log > MAX_DELTA_LOOKBACK_WINDOW_N_LOG {
-        return true;
-    }
-    state_n_log > window_n_log
+    window_n_log > MAX_DELTA_LOOKBACK_WINDOW_N_LOG || state_n_log > window_n_log
 }
 
 // Test 9.
@@ -62,21 +36,13 @@ fn is_malformed(encoding: DeltaEncoding) -> bool
     ensures { result ≡ malformed encoding }
 {
     match encoding {
-        DeltaEncoding::NoOp => false,
-        DeltaEncoding::Consecutive {
-            order,
-            secondary_uses_delta: _,
-        } => order.0 == 0,
+        DeltaEncoding::Consecutive { order, .. } => order.0 == 0,
         DeltaEncoding::Lookback {
             window_n_log,
             state_n_log,
-            secondary_uses_delta: _,
+            ..
         } => logs_malformed(window_n_log, state_n_log),
-        DeltaEncoding::Conv1 {
-            quantization: _,
-            bias: _,
-            order: _,
-        } => false,
+        _ => false,
     }
 }
 
@@ -84,13 +50,9 @@ fn is_malformed(encoding: DeltaEncoding) -> bool
 fn logs_unfit(window_n_log: u32, state_n_log: u32) -> bool
     ensures { result ≡ logs_unfit window_n_log state_n_log }
 {
-    if window_n_log == 0 {
-        return true;
-    }
-    if window_n_log > MAX_WINDOW_N_LOG_FIELD {
-        return true;
-    }
-    state_n_log > MAX_DELTA_LOOKBACK_STATE_N_LOG
+    window_n_log == 0
+        || window_n_log > MAX_WINDOW_N_LOG_FIELD
+        || state_n_log > MAX_DELTA_LOOKBACK_STATE_N_LOG
 }
 
 // Test 10.
@@ -99,66 +61,48 @@ fn is_unfit(encoding: DeltaEncoding) -> bool
 {
     match encoding {
         DeltaEncoding::NoOp => false,
-        DeltaEncoding::Consecutive {
-            order,
-            secondary_uses_delta: _,
-        } => order.0 > MAX_CONSECUTIVE_DELTA_ORDER,
+        DeltaEncoding::Consecutive { order, .. } => order.0 > MAX_CONSECUTIVE_DELTA_ORDER,
         DeltaEncoding::Lookback {
             window_n_log,
             state_n_log,
-            secondary_uses_delta: _,
+            ..
         } => logs_unfit(window_n_log, state_n_log),
-        DeltaEncoding::Conv1 {
-            quantization,
-            bias: _,
-            order: _,
-        } => quantization.0 > MAX_CONV1_DELTA_QUANTIZATION,
+        DeltaEncoding::Conv1 { quantization, .. } => quantization.0 > MAX_CONV1_DELTA_QUANTIZATION,
     }
 }
 
 // How many bits a record takes.
+#[tactic(auto, using(record::proofs::Put::weights_total))]
 fn bit_size(encoding: DeltaEncoding) -> usize
     requires { misordered encoding ≡ false }
     ensures { result ≡ bits_of encoding }
 {
     match encoding {
         DeltaEncoding::NoOp => AFTER_VARIANT,
-        DeltaEncoding::Consecutive {
-            order: _,
-            secondary_uses_delta: _,
-        } => AFTER_ORDER + BITS_TO_ENCODE_FLAG,
-        DeltaEncoding::Lookback {
-            window_n_log: _,
-            state_n_log: _,
-            secondary_uses_delta: _,
-        } => AFTER_STATE + BITS_TO_ENCODE_FLAG,
-        DeltaEncoding::Conv1 {
-            quantization: _,
-            bias: _,
-            order,
-        } => AFTER_N_WEIGHTS + BITS_TO_ENCODE_DELTA_CONV_WEIGHT * order.0,
+        DeltaEncoding::Consecutive { .. } => AFTER_ORDER + BITS_TO_ENCODE_FLAG,
+        DeltaEncoding::Lookback { .. } => AFTER_STATE + BITS_TO_ENCODE_FLAG,
+        DeltaEncoding::Conv1 { order, .. } => {
+            AFTER_N_WEIGHTS + BITS_TO_ENCODE_DELTA_CONV_WEIGHT * order.0
+        }
     }
 }
 
 // The tests for a buffer of `room` bytes: the first that holds, in the order of their numbers.
 #[tactic(auto, unfolding(record::specs::Writing::writing_refusal))]
-pub fn refusal(encoding: DeltaEncoding, room: usize) -> Answer
+pub fn refusal(encoding: DeltaEncoding, room: usize) -> Result<(), Refusal>
     ensures { result ≡ writing_refusal encoding room }
 {
-    let misordered = is_misordered(encoding);
-    let malformed = is_malformed(encoding);
-    let unfit = is_unfit(encoding);
-    if misordered {
-        return Answer::BadOrder;
+    if is_misordered(encoding) {
+        return Err(Refusal::BadOrder);
     }
-    if malformed {
-        return Answer::BadRecord;
+    if is_malformed(encoding) {
+        return Err(Refusal::BadRecord);
     }
-    if unfit {
-        return Answer::UnfitField;
+    if is_unfit(encoding) {
+        return Err(Refusal::UnfitField);
     }
-    if room < (bit_size(encoding) + 7) / 8 {
-        return Answer::NoRoom;
+    if room < bit_size(encoding).div_ceil(8) {
+        return Err(Refusal::NoRoom);
     }
-    Answer::Done
+    Ok(())
 }

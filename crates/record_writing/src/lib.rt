@@ -5,47 +5,32 @@ ghost use Rattle.std.specs.Prelude.{false, ◌≡◌, ◌≤◌, ◌<◌, length
 ghost use Rattle.bits.specs.Fields.{with_field};
 ghost use Rattle.record.specs.Format.{weight_fields, bits_of, weights_at};
 ghost use Rattle.record.specs.Signed.{raised};
-ghost use Rattle.record.specs.Writing.{flag_value, stored_weights, put_fields, put_record, unused, misordered, unfit, write_answer, bytes_after};
+ghost use Rattle.record.specs.Writing.{stored_weights, put_fields, put_record, unused, misordered, unfit, write_answer, bytes_after};
 
 use crate::fit::refusal;
 use bits::writing::write_uint;
-use kinds::{Order, Shift};
+use kinds::{Order, Refusal, Shift};
 use record::{
     AFTER_BIAS, AFTER_N_WEIGHTS, AFTER_ORDER, AFTER_QUANTIZATION, AFTER_STATE, AFTER_VARIANT,
     AFTER_WINDOW, BITS_TO_ENCODE_DELTA_CONV_BIAS, BITS_TO_ENCODE_DELTA_CONV_N_WEIGHTS,
     BITS_TO_ENCODE_DELTA_CONV_QUANTIZATION, BITS_TO_ENCODE_DELTA_CONV_WEIGHT,
     BITS_TO_ENCODE_DELTA_ENCODING_ORDER, BITS_TO_ENCODE_DELTA_ENCODING_VARIANT,
     BITS_TO_ENCODE_DELTA_LOOKBACK_STATE_N_LOG, BITS_TO_ENCODE_DELTA_LOOKBACK_WINDOW_N_LOG,
-    BITS_TO_ENCODE_FLAG, DeltaEncoding, DeltaRecord, Writing,
+    BITS_TO_ENCODE_FLAG, DeltaEncoding, DeltaRecord,
 };
 
-// More 2^31, by no cast that loses: a negative weight is 2^31 - 1 less its complement.
+// More 2^31.
 fn weight_to_latent_ordered(weight: i32) -> u64
     ensures { result ≡ raised 31 weight }
 {
-    if weight < 0 {
-        return 2147483647 - ((-1 - weight) as u64);
-    }
-    weight as u64 + 2147483648
+    (weight as i64 + 2147483648) as u64
 }
 
-// More 2^63, in the same way.
+// More 2^63.
 fn bias_to_latent_ordered(bias: i64) -> u64
     ensures { result ≡ raised 63 bias }
 {
-    if bias < 0 {
-        return 9223372036854775807 - ((-1 - bias) as u64);
-    }
-    bias as u64 + 9223372036854775808
-}
-
-fn flag_value(flag: bool) -> u64
-    ensures { result ≡ flag_value flag }
-{
-    if flag {
-        return 1;
-    }
-    0
+    (bias as i128 + 9223372036854775808) as u64
 }
 
 fn write_no_op(bytes: &mut [u8]) -> usize
@@ -68,7 +53,7 @@ fn write_consecutive(order: Order, flag: bool, bytes: &mut [u8]) -> usize
         BITS_TO_ENCODE_DELTA_ENCODING_ORDER,
         k as u64,
     );
-    write_uint(bytes, AFTER_ORDER, BITS_TO_ENCODE_FLAG, flag_value(flag));
+    write_uint(bytes, AFTER_ORDER, BITS_TO_ENCODE_FLAG, u64::from(flag));
     AFTER_ORDER + BITS_TO_ENCODE_FLAG
 }
 
@@ -90,7 +75,7 @@ fn write_lookback(window_n_log: u32, state_n_log: u32, flag: bool, bytes: &mut [
         BITS_TO_ENCODE_DELTA_LOOKBACK_STATE_N_LOG,
         state_n_log as u64,
     );
-    write_uint(bytes, AFTER_STATE, BITS_TO_ENCODE_FLAG, flag_value(flag));
+    write_uint(bytes, AFTER_STATE, BITS_TO_ENCODE_FLAG, u64::from(flag));
     AFTER_STATE + BITS_TO_ENCODE_FLAG
 }
 
@@ -98,21 +83,17 @@ fn write_weights(weights: [i32; 32], order: Order, bytes: &mut [u8])
     requires { order.0 ≤ 32 }
     ensures { bytes.new ≡ put_fields bytes.old weights_at (weight_fields order.0) (stored_weights order.0 weights) }
 {
-    let k = order.0;
-    let mut i = 0;
-    while i < k {
-        let at = AFTER_N_WEIGHTS + BITS_TO_ENCODE_DELTA_CONV_WEIGHT * i;
-        let weight = weights[i];
+    for (i, weight) in weights[..order.0].iter().enumerate() {
         write_uint(
             bytes,
-            at,
+            AFTER_N_WEIGHTS + BITS_TO_ENCODE_DELTA_CONV_WEIGHT * i,
             BITS_TO_ENCODE_DELTA_CONV_WEIGHT,
-            weight_to_latent_ordered(weight),
+            weight_to_latent_ordered(*weight),
         );
-        i += 1;
     }
 }
 
+#[tactic(auto, using(record::proofs::Put::weights_total))]
 fn write_conv1(
     quantization: Shift,
     bias: i64,
@@ -181,20 +162,16 @@ fn finish_byte(bits: usize, bytes: &mut [u8])
     write_uint(bytes, bits, (8 - bits % 8) % 8, 0);
 }
 
-// Writes the record from the buffer's first bit on, always in the form with variants; the answer has the bits written.
-pub fn write_to(delta: DeltaRecord, bytes: &mut [u8]) -> Writing
+// Writes the record from the buffer's first bit on, always in the form with variants, and says how many bits it wrote.
+#[tactic(auto, unfolding(record::specs::Writing::write_answer, record::specs::Writing::bytes_after, record::specs::Writing::written))]
+pub fn write_to(delta: DeltaRecord, bytes: &mut [u8]) -> Result<usize, Refusal>
     ensures value { result ≡ write_answer delta (length bytes.old) }
     ensures bytes_after { bytes.new ≡ bytes_after delta bytes.old }
 {
-    let encoding = delta.encoding;
-    let weights = delta.weights;
-    let answer = refusal(encoding, bytes.len());
-    if kinds::number(answer) != 0 {
-        return Writing { answer, bits: 0 };
-    }
-    let bits = write_fields(encoding, weights, bytes);
+    refusal(delta.encoding, bytes.len())?;
+    let bits = write_fields(delta.encoding, delta.weights, bytes);
     finish_byte(bits, bytes);
-    Writing { answer, bits }
+    Ok(bits)
 }
 
 pub mod fit;

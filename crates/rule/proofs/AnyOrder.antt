@@ -14,7 +14,8 @@ use Rattle.rule.specs.Prediction.{sum_abs, admitted, sum_at}
 use Rattle.rule.specs.AnyOrder.{terms, added, Reordered, none, keep, swap, both}
 use Rattle.rule.proofs.Sizes as sizes
 use Rattle.rule.proofs.Sums as sums
-use Rattle.rule.proofs.Sums.{Inside, Samples}
+use Rattle.rule.specs.Numbers.{Inside}
+use Rattle.rule.proofs.Sums.{Samples}
 
 -- the rule's own sum adds these terms in weight order
 pub sum_added : (s : ℤ) (ws : List ℤ) (xs : List ℕ) → sum_at s ws xs ≡ added s (terms ws xs)

@@ -3,11 +3,11 @@
 -- Assumes nothing.
 use mathlib.Core.Path.{◌≡◌, refl, sym, ap, ◌∙◌}
 use mathlib.Core.List.{List, [], ◌∷◌, ◌++◌, append_assoc}
-use Prim.Native.Nat.{ℕ, zero, suc, ◌+◌, ◌-◌, ◌≤◌, ◌<◌}
-use native.Mathlib.Nat.{add-zero, sub-zero, zero-sub, suc-sub-suc, sub_self}
+use Prim.Native.Nat.{ℕ, ◌+◌, ◌-◌, ◌≤◌, ◌<◌}
+use native.Mathlib.Nat.{add-zero, sub_self}
 use native.Mathlib.Omega.{arith}
 use lib.ListN.{length, take, drop, length-append, length-drop, take-append-drop}
-use lib.Seq.{take-nil, take-append-add, drop-append-add, drop_at, take-append-le, drop-append-le, length-take-le}
+use lib.Seq.{take-append-add, drop-append-add, drop_at, take-append-le, drop-append-le, length-take-le}
 use Rattle.rule.proofs.Parts.{drop-take}
 use Rattle.rule.specs.Coding.{window, restored, sample_of, extended, decoded_piece, new_state}
 

@@ -1,14 +1,14 @@
 -- What a call may lean on once its tests have passed.
 -- Assumes nothing.
+use Rattle.std.specs.Prelude.{Err, is_ok}
 use mathlib.Core.Path.{◌≡◌, refl, sym, ◌∙◌}
 use mathlib.Core.Bool.{Bool, true, false, not, cond, ◌&&◌, false≢true}
 use Prim.Native.Nat.{ℕ, ◌≤◌}
 use borrow.Author.Tests.{leb-true, ltb-true, eqb-true, ltb-false, le-leb, lt-ltb, eq-eqb}
 use lib.Dec.{leb, ltb, eqb}
 use lib.ListN.{length}
-use Rattle.kinds.specs.declared.Answer.{Answer}
-use Rattle.kinds.specs.declared.Answer.TheVariants.{Done, BadOrder, BadShift, Overflows, BadLength, TooFewSamples}
-use Rattle.kinds.specs.Answers.{refuse, is_done, when_done}
+use Rattle.kinds.specs.declared.Refusal.TheVariants.{BadOrder, BadShift, Overflows, BadLength, TooFewSamples}
+use Rattle.kinds.specs.Answers.{Answer, Done, refuse, when_done}
 use Rattle.rule.specs.Numbers.{accumulator}
 use Rattle.rule.specs.Prediction.{admitted, Ready}
 use Rattle.rule.specs.Configuration.{Config}
@@ -19,7 +19,7 @@ both true true h = (refl, refl)
 both true false h = absurd (false≢true h)
 both false b h = absurd (false≢true h)
 
-all_pass : (a b c d : Bool) → is_done (refuse (not a) BadOrder (refuse (not b) BadShift (refuse (not c) BadLength (refuse (not d) Overflows Done)))) ≡ true
+all_pass : (a b c d : Bool) → is_ok (refuse (not a) BadOrder (refuse (not b) BadShift (refuse (not c) BadLength (refuse (not d) Overflows Done)))) ≡ true
     → (a ≡ true) × (b ≡ true) × (c ≡ true) × (d ≡ true)
 all_pass true true true true h = (refl, refl, refl, refl)
 all_pass true true true false h = absurd (false≢true h)
@@ -28,7 +28,7 @@ all_pass true false c d h = absurd (false≢true h)
 all_pass false b c d h = absurd (false≢true h)
 
 module _ (W : ℕ) (c : Config) (state : ℕ) where
-  pub coding_passed : is_done (coding_refusal W c state) ≡ true → Ready W c × (state ≡ c.order)
+  pub coding_passed : is_ok (coding_refusal W c state) ≡ true → Ready W c × (state ≡ c.order)
   unfolding coding_refusal
   coding_passed h =
       let t = all_pass (order_fits c.order) (shift_fits W c.shift) (eqb (length c.weights) c.order && eqb state c.order) (admitted W c.bias c.weights) h in
@@ -58,31 +58,31 @@ module _ (W : ℕ) (c : Config) (state : ℕ) where
       )
 
   -- a later test that is made only where those before it passed
-  then_done : (a : Answer) (t : Bool) → is_done (when_done a (refuse t TooFewSamples Done) a) ≡ true → (is_done a ≡ true) × (t ≡ false)
-  then_done a t h = go (is_done a) t refl h
+  then_done : (a : Answer) (t : Bool) → is_ok (when_done a (refuse t TooFewSamples Done) a) ≡ true → (is_ok a ≡ true) × (t ≡ false)
+  then_done a t h = go (is_ok a) t refl h
     where
-      go : (d t : Bool) → is_done a ≡ d → is_done (cond d (refuse t TooFewSamples Done) a) ≡ true → (is_done a ≡ true) × (t ≡ false)
+      go : (d t : Bool) → is_ok a ≡ d → is_ok (cond d (refuse t TooFewSamples Done) a) ≡ true → (is_ok a ≡ true) × (t ≡ false)
       go true true e h = absurd (false≢true h)
       go true false e h = (e, refl)
       go false t e h = absurd (false≢true (sym e ∙ h))
 
-  pub encoding_passed : (n : ℕ) → is_done (encoding_refusal W c state n) ≡ true → (Ready W c × (state ≡ c.order)) × (c.order ≤ n)
+  pub encoding_passed : (n : ℕ) → is_ok (encoding_refusal W c state n) ≡ true → (Ready W c × (state ≡ c.order)) × (c.order ≤ n)
   unfolding encoding_refusal
   encoding_passed n h =
       let t = then_done (coding_refusal W c state) (ltb n c.order) h in
       (coding_passed t.0, ltb-false n c.order t.1)
 
-  six_done : (t : Bool) → is_done (refuse (not t) BadOrder (coding_refusal W c state)) ≡ true → (t ≡ true) × (Ready W c × (state ≡ c.order))
+  six_done : (t : Bool) → is_ok (refuse (not t) BadOrder (coding_refusal W c state)) ≡ true → (t ≡ true) × (Ready W c × (state ≡ c.order))
   six_done true h = (refl, coding_passed h)
   six_done false h = absurd (false≢true h)
 
-  pub order_six_passed : is_done (order_six_refusal W c state) ≡ true → (c.order ≡ 6) × (Ready W c × (state ≡ c.order))
+  pub order_six_passed : is_ok (order_six_refusal W c state) ≡ true → (c.order ≡ 6) × (Ready W c × (state ≡ c.order))
   unfolding order_six_refusal
   order_six_passed h =
       let t = six_done (eqb c.order 6) h in
       (eqb-true c.order 6 t.0, t.1)
 
-  pub encoding_order : (n : ℕ) → order_fits c.order ≡ false → encoding_refusal W c state n ≡ BadOrder
+  pub encoding_order : (n : ℕ) → order_fits c.order ≡ false → encoding_refusal W c state n ≡ Err BadOrder
   unfolding encoding_refusal coding_refusal
   encoding_order n h = rw h
 

@@ -16,13 +16,9 @@ use lib.Seq.{take_all}
 use lib.Signed.{mag}
 use mir.Syntax.{Width}
 use mir.Val.{SFits, hbits}
-use Rattle.rule.specs.Numbers.{greatest, accumulator, limit}
+use Rattle.rule.specs.Numbers.{greatest, accumulator, limit, Inside}
 use Rattle.rule.specs.Prediction.{sum_abs, admitted, sum_at}
 use Rattle.rule.proofs.Sizes as sizes
-
--- z lies inside the signed accumulator of the width W
-pub record Inside (W : ℕ) (z : ℤ) : Type 0 where
-  pub inside : mag z < 2 ^ (accumulator W - 1)
 
 -- xs are samples of W bits
 pub record Samples (W : ℕ) (xs : List ℕ) : Type 0 where
@@ -52,7 +48,7 @@ one_abs_le zero (w ∷ ws) = omega arith
 one_abs_le (suc i) (w ∷ ws) = omega (arith, one_abs_le i ws)
 
 pub small : (W : ℕ) (z : ℤ) → nat_abs z ≤ limit W → Inside W z
-small W z h = record { inside = omega (arith, sizes.mag-le-abs z, pow_pos (accumulator W - 1)) }
+small W z h = record { inside = h }
 
 pub sample_le : (W x : ℕ) → x < 2 ^ W → x ≤ greatest W
 sample_le W x h = omega arith
@@ -96,7 +92,9 @@ module _ (W : ℕ) (bias : ℤ) (ws : List ℤ) (ok : admitted W bias ws ≡ tru
 
 -- ---- a machine's signed width that has the accumulator's bits, or more
 pub fits : {w : Width} {W : ℕ} {z : ℤ} → accumulator W - 1 ≤ hbits w → Inside W z → SFits w z
-fits h k = record { sfits = lt_of_lt_of_le k.inside (pow_mono h) }
+fits {W = W} {z} h k =
+    let below : mag z < 2 ^ (accumulator W - 1) = omega (arith, sizes.mag-le-abs z, k.inside, pow_pos (accumulator W - 1)) in
+    record { sfits = lt_of_lt_of_le below (pow_mono h) }
 
 -- ---- the sum, one weight more
 next_at : (s : ℤ) (ws : List ℤ) (xs : List ℕ) (i : ℕ) → i < length ws → i < length xs

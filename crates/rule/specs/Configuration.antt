@@ -2,6 +2,7 @@
 use Rattle.std.specs.Prelude.{List, ℕ, ℤ, length}
 use Rattle.kinds.specs.declared.Order.{Order}
 use Rattle.kinds.specs.declared.Shift.{Shift}
+use Rattle.kinds.specs.declared.Configuration.{Configuration}
 
 pub record Config : Type 0 where
   pub order : ℕ
@@ -12,6 +13,9 @@ pub record Config : Type 0 where
 -- as a call is given it
 abbrev pub config : Order → Shift → ℤ → List ℤ → Config
 config order shift bias weights = record { order = order.0; shift = shift.0; bias = bias; weights = weights }
+
+abbrev pub given : Configuration ℤ → Config
+given c = config c.order c.shift c.bias c.weights.now
 
 -- as a step holds it, whose order is the number of its weights
 abbrev pub held : Shift → ℤ → List ℤ → Config

@@ -1,5 +1,5 @@
 -- What the width W of a sample, in bits, decides.
-use Rattle.std.specs.Prelude.{ℕ, ◌-◌, ◌*◌, ◌^◌}
+use Rattle.std.specs.Prelude.{ℕ, ◌-◌, ◌*◌, ◌^◌, ◌≤◌, ℤ, nat_abs}
 
 -- M, the greatest sample
 abbrev pub greatest : ℕ → ℕ
@@ -16,3 +16,7 @@ centre W = 2 ^ (W - 1)
 -- the greatest number of a signed accumulator
 abbrev pub limit : ℕ → ℕ
 limit W = 2 ^ (accumulator W - 1) - 1
+
+-- z lies inside a signed accumulator, whose least number no admitted sum needs
+pub record Inside (W : ℕ) (z : ℤ) : Type 0 where
+  pub inside : nat_abs z ≤ limit W

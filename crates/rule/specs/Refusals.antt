@@ -1,8 +1,7 @@
 -- The refusals of coding: each test alone, and the order in which a call makes them.
 use Rattle.std.specs.Prelude.{Bool, not, ◌&&◌, ℕ, leb, ltb, eqb, length}
-use Rattle.kinds.specs.declared.Answer.{Answer}
-use Rattle.kinds.specs.declared.Answer.TheVariants.{Done, BadOrder, BadShift, Overflows, BadLength, TooFewSamples}
-use Rattle.kinds.specs.Answers.{refuse, when_done}
+use Rattle.kinds.specs.declared.Refusal.TheVariants.{BadOrder, BadShift, Overflows, BadLength, TooFewSamples}
+use Rattle.kinds.specs.Answers.{Answer, Done, refuse, when_done}
 use Rattle.rule.specs.Numbers.{accumulator}
 use Rattle.rule.specs.Configuration.{Config}
 use Rattle.rule.specs.Prediction.{admitted}

@@ -6,7 +6,7 @@ use crate::lines::Line;
 use crate::sums::NO_SUM;
 
 // What a case begins with, but for its width and its weights. `count` is the number of samples.
-#[derive(Clone, Copy)]
+#[derive(Clone, Copy, Debug, PartialEq, Eq, Hash)]
 pub struct Config {
     pub order: usize,
     pub shift: u32,
@@ -14,28 +14,24 @@ pub struct Config {
     pub count: usize,
 }
 
-// The sum of the weights, the row and all that comes of it.
-fn run(numbers: [u64; 256], row: [u64; 1088]) -> u64 {
+// The sum of the weights, the row and all that comes of it; nothing where the case has no width, or more than there is room for.
+fn run(numbers: [u64; 256], row: [u64; 1088]) -> Option<u64> {
     let c = Config {
         order: place(numbers[2]),
         shift: crate::casts::word(numbers[3]),
         bias: crate::casts::signed(numbers[4]),
         count: place(numbers[5]),
     };
-    if 32 < c.order {
-        return NO_SUM;
-    }
-    if 1088 < c.count {
-        return NO_SUM;
+    if 32 < c.order || 1088 < c.count {
+        return None;
     }
     let weights = crate::casts::weights(numbers, 6);
     let sum = crate::sums::with_weights(crate::sums::EMPTY, weights, c.order);
-    let width = numbers[1];
-    match width {
-        8 => crate::coder_8::code(c, weights, sum, row),
-        16 => crate::coder_16::code(c, weights, sum, row),
-        32 => crate::coder_32::code(c, weights, sum, row),
-        _ => NO_SUM,
+    match numbers[1] {
+        8 => Some(crate::coder::code::<u8>(c, weights, sum, row)),
+        16 => Some(crate::coder::code::<u16>(c, weights, sum, row)),
+        32 => Some(crate::coder::code::<u32>(c, weights, sum, row)),
+        _ => None,
     }
 }
 
@@ -43,19 +39,15 @@ fn run(numbers: [u64; 256], row: [u64; 1088]) -> u64 {
 fn behind_weights(numbers: [u64; 256]) -> usize
     ensures { result ≤ 38 }
 {
-    6 + slices::least(place(numbers[2]), 32)
+    6 + place(numbers[2]).min(32)
 }
 
 // The numbers from a place on.
 fn row_from(numbers: [u64; 256], from: usize) -> [u64; 1088]
     requires { from ≤ 256 }
 {
-    let mut row: [u64; 1088] = [0; 1088];
-    let mut i = 0;
-    while i < 256 - from {
-        row[i] = numbers[from + i];
-        i += 1;
-    }
+    let mut row = [0; 1088];
+    row[..256 - from].copy_from_slice(&numbers[from..]);
     row
 }
 
@@ -63,7 +55,7 @@ fn row_from(numbers: [u64; 256], from: usize) -> [u64; 1088]
 pub(crate) fn code(line: Line) -> bool {
     let numbers = line.numbers;
     let row = row_from(numbers, behind_weights(numbers));
-    run(numbers, row) == crate::sums::kept(line, 6)
+    run(numbers, row) == Some(crate::sums::kept(line, 6))
 }
 
 // The next of a row of numbers that look like chance.
@@ -75,13 +67,11 @@ fn next(x: u64) -> u64
 
 // The row of a seed; a sample takes the low bits. harness/src/sample.rs makes the same.
 fn row_of(seed: u64) -> [u64; 1088] {
-    let mut row: [u64; 1088] = [0; 1088];
+    let mut row = [0; 1088];
     let mut x = seed;
-    let mut i = 0;
-    while i < 1088 {
+    for place in row.iter_mut() {
         x = next(x);
-        row[i] = x;
-        i += 1;
+        *place = x;
     }
     row
 }
@@ -93,5 +83,5 @@ pub(crate) fn code_row(line: Line) -> bool {
     if line.count != at + 2 {
         return false;
     }
-    run(numbers, row_of(numbers[at])) == numbers[at + 1]
+    run(numbers, row_of(numbers[at])).unwrap_or(NO_SUM) == numbers[at + 1]
 }

@@ -1,7 +1,8 @@
 // Lines of whole numbers in decimal.
-use text::{Found, Word};
+use text::Word;
+use text::signed::to_signed_64;
 
-// The numbers of a line, by their 64 bits, in the first `count` places; the others are 0.
+// The numbers of a line, by their 64 bits, in the first `count` places; the others are 0. There is no heap, so the room is fixed.
 #[derive(Clone, Copy)]
 pub struct Line {
     pub count: usize,
@@ -9,40 +10,24 @@ pub struct Line {
 }
 
 // A word's number, where it is at least -2^63.
-fn to_bits(word: Word) -> Found {
-    let found = word.found;
-    let Found::Number(size) = found else {
-        return Found::Nothing;
-    };
-    if !word.negative {
-        return Found::Number(size);
+fn to_bits(word: Word) -> Option<u64> {
+    if word.negative {
+        return Some(to_signed_64(word)?.cast_unsigned());
     }
-    if 9223372036854775808 < size {
-        return Found::Nothing;
-    }
-    Found::Number(std::num::wrapping_sub_u64(0, size))
+    word.found
 }
 
-// A line with a word that is no number, or with numbers for every place, counts as an empty one.
-pub(crate) fn read_line(words: &[u8]) -> Line {
-    let mut numbers: [u64; 256] = [0; 256];
+// Nothing where a word is no number, or where there are numbers for every place.
+pub(crate) fn read_line(words: &[u8]) -> Option<Line> {
+    let mut numbers = [0; 256];
     let mut from = 0;
-    let mut i = 0;
-    while i < 256 {
+    for count in 0..256 {
         let word = text::next_word(words, from);
         if word.start == word.end {
-            return Line { count: i, numbers };
+            return Some(Line { count, numbers });
         }
-        let found = to_bits(word);
-        let Found::Number(bits) = found else {
-            break;
-        };
-        numbers[i] = bits;
+        numbers[count] = to_bits(word)?;
         from = word.end;
-        i += 1;
     }
-    Line {
-        count: 0,
-        numbers: [0u64; 256],
-    }
+    None
 }

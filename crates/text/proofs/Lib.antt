@@ -1,4 +1,2 @@
 pub mod Scans
 pub mod Printed
-pub mod Signing
-pub mod Lines

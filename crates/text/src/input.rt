@@ -12,6 +12,7 @@ pub fn read_full<R: Read>(from: &mut R, space: &mut [u8]) -> io::Result<usize>
     ensures whole { IfOk result (λ n. n < length space.new → IsAtEnd (R.remaining from.new)) }
 {
     let mut done = 0;
+    // How far a turn comes is the reader's to say, so no range counts it.
     while done < space.len() {
         let n = from.read(&mut space[done..])?;
         if n == 0 {

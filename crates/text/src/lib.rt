@@ -1,115 +1,79 @@
 // Decimal numbers in text: the words between blanks, and the number that a word stands for.
 #![tactic(auto)]
 
-ghost use Rattle.std.specs.Prelude.{◌≡◌, ◌+◌, ◌≤◌, length, drop};
-ghost use Rattle.text.specs.Words.{front, is_blank, is_digit, is_negative, meaning, number, word_from};
+ghost use Rattle.std.specs.Prelude.{◌≡◌, ◌≤◌, length};
+ghost use Rattle.text.specs.Words.{front, is_blank, is_negative, meaning, number, with_digit, word_from};
 
-const TAB: u8 = 9;
-
-const LINE_END: u8 = 10;
-
-const RETURN: u8 = 13;
-
-const SPACE: u8 = 32;
-
-const MINUS: u8 = 45;
-
-// What a word holds, but for its sign: a number below 2^64, or nothing that is one.
-#[derive(Clone, Copy)]
-pub enum Found {
-    Nothing,
-    Number(u64),
-}
-
-// A word of a text: it stands from `start` up to `end`, and is negative where it begins with a minus. Where the text has no more words,
-// it is empty and stands where the text ends.
-#[derive(Clone, Copy)]
+// A word of a text: it stands from `start` up to `end`, and is negative where it begins with a minus. `found` is the number that it holds,
+// but for its sign, where it holds one below 2^64. Where the text has no more words, it is empty and stands where the text ends.
+#[derive(Clone, Copy, Debug, PartialEq, Eq, Hash)]
 pub struct Word {
     pub start: usize,
     pub end: usize,
     pub negative: bool,
-    pub found: Found,
+    pub found: Option<u64>,
 }
 
 fn is_blank(byte: u8) -> bool
     ensures { result ≡ is_blank byte }
 {
-    if byte == TAB {
-        return true;
-    }
-    if byte == LINE_END {
-        return true;
-    }
-    if byte == RETURN {
-        return true;
-    }
-    byte == SPACE
+    matches!(byte, b'\t' | b'\n' | b'\r' | b' ')
 }
 
-fn is_digit(byte: u8) -> bool
-    ensures { result ≡ is_digit byte }
+// How many bytes at the front are blanks; or, where `blank` is false, are none.
+#[tactic(auto, unfolding(crate::specs::Words::front))]
+fn front(text: &[u8], blank: bool) -> usize
+    ensures value { result ≡ front blank text.now }
+    ensures within { result ≤ length text.now }
 {
-    if 48 <= byte { byte <= 57 } else { false }
+    text.iter()
+        .take_while(|byte| is_blank(**byte) == blank)
+        .count()
 }
 
-// The first place from `from` on that is no blank; or, where `blank` is false, the first that is one.
-fn past(text: &[u8], from: usize, blank: bool) -> usize
-    requires { from ≤ length text.now }
-    ensures { (result ≡ from + front blank (drop from text.now)) × (result ≤ length text.now) }
+// The number with a digit after it.
+fn with_digit(value: u64, byte: u8) -> Option<u64>
+    ensures { result ≡ with_digit value byte }
 {
-    let mut i = from;
-    while i < text.len() {
-        if is_blank(text[i]) != blank {
-            return i;
-        }
-        i += 1;
+    if !byte.is_ascii_digit() {
+        return None;
     }
-    i
+    value.checked_mul(10)?.checked_add(u64::from(byte - b'0'))
 }
 
 // The number of a row of digits.
-fn number(digits: &[u8]) -> Found
+#[tactic(auto, using(crate::proofs::Scans::number_step), unfolding(crate::specs::Words::number_after, crate::specs::Words::number))]
+fn number(digits: &[u8]) -> Option<u64>
     ensures { result ≡ number digits.now }
 {
-    if digits.len() == 0 {
-        return Found::Nothing;
+    if digits.is_empty() {
+        return None;
     }
-    let mut value: u64 = 0;
-    let mut i = 0;
-    while i < digits.len() {
-        let byte = digits[i];
-        if !is_digit(byte) {
-            return Found::Nothing;
-        }
-        let digit = (byte - 48) as u64;
-        if (18446744073709551615 - digit) / 10 < value {
-            return Found::Nothing;
-        }
-        value = value * 10 + digit;
-        i += 1;
+    let mut value = 0;
+    for byte in digits {
+        value = with_digit(value, *byte)?;
     }
-    Found::Number(value)
+    Some(value)
 }
 
 fn is_negative(word: &[u8]) -> bool
     ensures { result ≡ is_negative word.now }
 {
-    if word.len() == 0 {
-        return false;
-    }
-    word[0] == MINUS
+    matches!(word, [b'-', ..])
 }
 
-fn meaning(word: &[u8]) -> Found
+#[tactic(auto, unfolding(crate::specs::Words::meaning))]
+fn meaning(word: &[u8]) -> Option<u64>
     ensures { result ≡ meaning word.now }
 {
-    if is_negative(word) {
-        return number(&word[1..]);
+    match word {
+        [b'-', digits @ ..] => number(digits),
+        _ => number(word),
     }
-    number(word)
 }
 
 // The first word from a place on.
+#[tactic(auto, unfolding(crate::specs::Words::word_from))]
 pub fn next_word(text: &[u8], from: usize) -> Word
     ensures { result ≡ word_from text.now from }
 {
@@ -118,18 +82,17 @@ pub fn next_word(text: &[u8], from: usize) -> Word
             start: from,
             end: from,
             negative: false,
-            found: Found::Nothing,
+            found: None,
         };
     }
-    let start = past(text, from, true);
-    let end = past(text, start, false);
-    let negative = is_negative(&text[start..end]);
-    let found = meaning(&text[start..end]);
+    let start = from + front(&text[from..], true);
+    let end = start + front(&text[start..], false);
+    let word = &text[start..end];
     Word {
         start,
         end,
-        negative,
-        found,
+        negative: is_negative(word),
+        found: meaning(word),
     }
 }
 

@@ -2,27 +2,27 @@
 ghost use Rattle.std.specs.Prelude.{◌≡◌, ◌-◌, ◌≤◌, ◌<◌, ◌^◌, length};
 ghost use Rattle.text.specs.Places.{line_length, stepped, place_after};
 
-const LINE_END: u8 = 10;
+use std::fmt;
 
 // A place of a text, as people count it: both from 1, a column to a byte.
-#[derive(Clone, Copy)]
+#[derive(Clone, Copy, Debug, PartialEq, Eq, Hash)]
 pub struct Place {
     pub line: usize,
     pub column: usize,
 }
 
+impl fmt::Display for Place {
+    fn fmt<W: fmt::Write>(&self, f: &mut fmt::Formatter<W>) -> fmt::Result {
+        write!(f, "line {}, column {}", self.line, self.column)
+    }
+}
+
 // How long the first line is, without its line end.
+#[tactic(auto, unfolding(crate::specs::Places::line_length))]
 pub fn line_length(text: &[u8]) -> usize
     ensures { (result ≡ line_length text.now) × (result ≤ length text.now) }
 {
-    let mut i = 0;
-    while i < text.len() {
-        if text[i] == LINE_END {
-            return i;
-        }
-        i += 1;
-    }
-    i
+    text.iter().take_while(|byte| **byte != b'\n').count()
 }
 
 // The place after one more byte.
@@ -30,7 +30,7 @@ fn step(place: Place, byte: u8) -> Place
     requires { (place.line < 2 ^ 64 - 1) × (place.column < 2 ^ 64 - 1) }
     ensures { result ≡ stepped place byte }
 {
-    if byte == LINE_END {
+    if byte == b'\n' {
         return Place {
             line: place.line + 1,
             column: 1,
@@ -43,14 +43,13 @@ fn step(place: Place, byte: u8) -> Place
 }
 
 // The place that follows a text, which starts at line 1, column 1.
+#[tactic(auto, unfolding(crate::specs::Places::place_after))]
 pub fn place_after(text: &[u8]) -> Place
     ensures { result ≡ place_after (record { line = 1; column = 1 }) text.now }
 {
     let mut place = Place { line: 1, column: 1 };
-    let mut i = 0;
-    while i < text.len() {
-        place = step(place, text[i]);
-        i += 1;
+    for byte in text {
+        place = step(place, *byte);
     }
     place
 }

@@ -1,48 +1,49 @@
 // Coding at any width. The coders that are called work on bytes, a sample in as many as its width has, the least significant first. The
 // width is asked for here alone: which coder to call, how many bytes samples have, and which number stands in them.
-ghost use Rattle.std.specs.Prelude.{◌+◌, ◌*◌, ◌<◌, ◌≤◌, ◌^◌};
+ghost use Rattle.std.specs.Prelude.{◌+◌, ◌*◌, ◌<◌, ◌≤◌, length};
 
-use crate::reading::{Configuration, Numbers};
-use kinds::{Answer, Width};
+use crate::reading::Head;
+use byte_coding::decoder::decode as decode_at;
+use byte_coding::encoder::encode as encode_at;
+use kinds::{Configuration, Refusal, Width};
 
-// What a call answers, and leaves: samples or residuals, and the state, each in the first places.
+// What encoding leaves: residuals and the state, as bytes, each in the first places.
 #[derive(Clone, Copy)]
 pub struct Coded {
-    pub answer: Answer,
     pub row: [u8; 16384],
-    pub state: [u8; 16384],
+    pub state: [u8; 128],
 }
 
-fn encode_bytes(c: Configuration, weights: &[u8], row: &mut [u8], state: &mut [u8]) -> Answer {
-    let width = c.width;
-    let order = c.order;
-    let shift = c.shift;
-    let bias = c.bias;
-    let said = match width {
-        Width::Eight => byte_coding_8::encoder::encode(order, shift, bias, weights, row, state),
-        Width::Sixteen => byte_coding_16::encoder::encode(order, shift, bias, weights, row, state),
-        Width::ThirtyTwo => byte_coding_32::encoder::encode(
-            order, shift, bias, weights, row, state,
-        ),
-    };
-    said.answer
+fn configuration(c: Head, weights: &[u8]) -> Configuration<'_, u8> {
+    Configuration {
+        order: c.order,
+        shift: c.shift,
+        bias: c.bias,
+        weights,
+    }
 }
 
-fn decode_bytes(c: Configuration, weights: &[u8], state: &mut [u8], piece: &mut [u8]) -> Answer {
-    let width = c.width;
-    let order = c.order;
-    let shift = c.shift;
-    let bias = c.bias;
-    let said = match width {
-        Width::Eight => byte_coding_8::decoder::decode(order, shift, bias, weights, state, piece),
-        Width::Sixteen => byte_coding_16::decoder::decode(
-            order, shift, bias, weights, state, piece,
-        ),
-        Width::ThirtyTwo => byte_coding_32::decoder::decode(
-            order, shift, bias, weights, state, piece,
-        ),
-    };
-    said.answer
+fn encode_bytes(c: Head, weights: &[u8], row: &mut [u8], state: &mut [u8]) -> Result<(), Refusal> {
+    let config = configuration(c, weights);
+    match c.width {
+        Width::Eight => encode_at::<u8>(config, row, state),
+        Width::Sixteen => encode_at::<u16>(config, row, state),
+        Width::ThirtyTwo => encode_at::<u32>(config, row, state),
+    }
+}
+
+fn decode_bytes(
+    c: Head,
+    weights: &[u8],
+    state: &mut [u8],
+    piece: &mut [u8],
+) -> Result<(), Refusal> {
+    let config = configuration(c, weights);
+    match c.width {
+        Width::Eight => decode_at::<u8>(config, state, piece),
+        Width::Sixteen => decode_at::<u16>(config, state, piece),
+        Width::ThirtyTwo => decode_at::<u32>(config, state, piece),
+    }
 }
 
 // How many bytes samples have.
@@ -57,98 +58,80 @@ fn bytes_in(width: Width, samples: usize) -> usize
     }
 }
 
-// The byte of a number at a place from 0 to 3.
-fn byte_of(n: u64, place: usize) -> u8 {
-    match place {
-        0 => (n % 256) as u8,
-        1 => (n / 256 % 256) as u8,
-        2 => (n / 65536 % 256) as u8,
-        _ => (n / 16777216 % 256) as u8,
+// The first bytes of both, as many as the shorter has.
+fn copy(to: &mut [u8], from: &[u8]) {
+    for (place, byte) in to.iter_mut().zip(from) {
+        *place = *byte;
     }
 }
 
-// The bytes past those of the last number stand for nothing.
-fn to_bytes(width: Width, numbers: [u64; 4096]) -> [u8; 16384] {
-    let size = bytes_in(width, 1);
-    let mut bytes: [u8; 16384] = [0; 16384];
-    let mut i = 0;
-    while i < 16384 {
-        bytes[i] = byte_of(numbers[i / size % 4096], i % size);
-        i += 1;
+fn weight_bytes(weights: &[i32]) -> [u8; 132] {
+    let mut bytes = [0; 132];
+    for (place, weight) in bytes.chunks_exact_mut(4).zip(weights) {
+        copy(place, &weight.to_le_bytes());
     }
     bytes
 }
 
-fn wide(byte: u8) -> u64
-    ensures { result < 2 ^ 8 }
-{
-    byte as u64
-}
-
-fn pair_at(bytes: [u8; 16384], at: usize) -> u64
-    requires { at + 1 < 16384 }
-    ensures { result < 2 ^ 16 }
-{
-    wide(bytes[at]) + 256 * wide(bytes[at + 1])
-}
-
-fn number_at(width: Width, bytes: [u8; 16384], i: usize) -> u64
-    requires { i < 4096 }
-{
-    match width {
-        Width::Eight => wide(bytes[i]),
-        Width::Sixteen => pair_at(bytes, 2 * i),
-        Width::ThirtyTwo => pair_at(bytes, 4 * i) + 65536 * pair_at(bytes, 4 * i + 2),
+fn sample_bytes(width: Width, samples: &[u64]) -> [u8; 16384] {
+    let mut bytes = [0; 16384];
+    for (place, sample) in bytes.chunks_exact_mut(bytes_in(width, 1)).zip(samples) {
+        copy(place, &sample.to_le_bytes());
     }
+    bytes
 }
 
-pub(crate) fn to_numbers(width: Width, bytes: [u8; 16384]) -> [u64; 4096] {
-    let mut numbers: [u64; 4096] = [0; 4096];
-    let mut i = 0;
-    while i < 4096 {
-        numbers[i] = number_at(width, bytes, i);
-        i += 1;
+// The samples that stand in the bytes, in the first places.
+pub(crate) fn to_samples(width: Width, bytes: &[u8]) -> [u64; 4096] {
+    let mut samples = [0; 4096];
+    for (place, sample) in samples
+        .iter_mut()
+        .zip(bytes.chunks_exact(bytes_in(width, 1)))
+    {
+        let mut wide = [0; 8];
+        copy(&mut wide, sample);
+        *place = u64::from_le_bytes(wide);
     }
-    numbers
+    samples
 }
 
 // Encodes the trace. Where the order is refused the state has no length that could be right.
-pub(crate) fn encode(c: Configuration, weights: Numbers, trace: Numbers) -> Coded
-    requires { (weights.count ≤ 4096) × (trace.count ≤ 4096) }
+pub(crate) fn encode(c: Head, weights: &[i32], trace: &[u64]) -> Result<Coded, Refusal>
+    requires { (length weights.now ≤ 33) × (length trace.now ≤ 4096) }
 {
-    let width = c.width;
-    let list = weights.values;
-    let samples = trace.values;
-    let bytes = to_bytes(Width::ThirtyTwo, list);
-    let mut row = to_bytes(width, samples);
-    let mut state: [u8; 16384] = [0; 16384];
-    let w = 4 * weights.count;
-    let n = bytes_in(width, trace.count);
-    let k = bytes_in(width, slices::least(c.order.0, 32));
-    let answer = encode_bytes(c, &bytes[0..w], &mut row[0..n], &mut state[0..k]);
-    Coded { answer, row, state }
+    let bytes = weight_bytes(weights);
+    let mut row = sample_bytes(c.width, trace);
+    let mut state = [0; 128];
+    let n = bytes_in(c.width, trace.len());
+    let k = bytes_in(c.width, c.order.0.min(32));
+    encode_bytes(
+        c,
+        &bytes[..4 * weights.len()],
+        &mut row[..n],
+        &mut state[..k],
+    )?;
+    Ok(Coded { row, state })
 }
 
-// Decodes the residuals of a row from a place on, up to another.
+// Decodes the residuals of a row from a place on, up to another. A refusal leaves them as they are, and the trace then comes back not whole.
 pub(crate) fn decode(
-    c: Configuration,
-    weights: Numbers,
-    given: [u8; 16384],
-    held: [u8; 16384],
+    c: Head,
+    weights: &[i32],
+    state: &mut [u8; 128],
+    row: &mut [u8; 16384],
     from: usize,
     end: usize,
-) -> Coded
-    requires { (weights.count ≤ 4096) × (from ≤ end) × (end ≤ 4096) }
+)
+    requires { (length weights.now ≤ 33) × (from ≤ end) × (end ≤ 4096) }
 {
-    let width = c.width;
-    let list = weights.values;
-    let bytes = to_bytes(Width::ThirtyTwo, list);
-    let mut row = given;
-    let mut state = held;
-    let w = 4 * weights.count;
-    let a = bytes_in(width, from);
-    let b = a + bytes_in(width, end - from);
-    let k = bytes_in(width, slices::least(c.order.0, 32));
-    let answer = decode_bytes(c, &bytes[0..w], &mut state[0..k], &mut row[a..b]);
-    Coded { answer, row, state }
+    let bytes = weight_bytes(weights);
+    let a = bytes_in(c.width, from);
+    let b = a + bytes_in(c.width, end - from);
+    let k = bytes_in(c.width, c.order.0.min(32));
+    let _ = decode_bytes(
+        c,
+        &bytes[..4 * weights.len()],
+        &mut state[..k],
+        &mut row[a..b],
+    );
 }

@@ -5,9 +5,9 @@
 // coded, so a fault of the text is told before a refusal.
 #![tactic(auto)]
 
-ghost use Rattle.std.specs.Prelude.{◌≤◌};
+ghost use Rattle.std.specs.Prelude.{◌≤◌, length};
 
-use reading::{Configuration, Fault, Head, Numbers, Wanted};
+use reading::{Fault, Head, Wanted};
 use std::io;
 
 mod coding;
@@ -19,94 +19,47 @@ mod saying;
 // The longest input, in bytes. A trace of 4096 numbers of 32 bits, the longest, fits.
 const MOST_BYTES: usize = 65536;
 
-// With the whole text read.
+const MOST_SAMPLES: usize = 4096;
+
 fn with_trace(
     rt: &impl Print,
     text: &[u8],
-    c: Configuration,
-    weights: Numbers,
-    trace: Numbers,
+    c: Head,
+    weights: &[i32],
+    trace: &[u64],
 ) -> io::Result<()>
-    requires { (weights.count ≤ 4096) × (trace.count ≤ 4096) }
+    requires { (length weights.now ≤ 33) × (length trace.now ≤ 4096) }
 {
-    let coded = coding::encode(c, weights, trace);
-    let answer = coded.answer;
-    if kinds::is_done(answer) {
-        return report::report(rt, c, weights, trace, coded);
+    match coding::encode(c, weights, trace) {
+        Ok(coded) => report::report(rt, c, weights, trace, coded),
+        Err(refusal) => refusing::say_refusal(rt, text, c, trace.len(), refusal),
     }
-    refusing::say_refusal(rt, text, c, trace.count, answer)
-}
-
-// With the first line read, up to `end`.
-fn with_weights(
-    rt: &impl Print,
-    text: &[u8],
-    end: usize,
-    c: Configuration,
-    weights: Numbers,
-) -> io::Result<()>
-    requires { weights.count ≤ 4096 }
-{
-    let width = c.width;
-    let most = admission::limits::greatest_sample(width);
-    let trace = reading::read_numbers(text, end, Wanted::Sample(most), 4096);
-    if trace.ended {
-        return with_trace(rt, text, c, weights, trace);
-    }
-    let wanted = if trace.count < 4096 {
-        Wanted::Sample(most)
-    } else {
-        Wanted::EndOfTrace
-    };
-    refusing::say_fault(
-        rt,
-        text,
-        Fault {
-            wanted,
-            at: trace.next,
-        },
-    )
-}
-
-// With the first four numbers of the first line read. An order is at most 32, so that with more weights than 32 every coder gives the
-// same refusal, whatever they are and however many: one more than that is enough.
-fn with_head(rt: &impl Print, text: &[u8], line: &[u8], c: Configuration) -> io::Result<()> {
-    let weights = reading::read_numbers(line, c.end, Wanted::Weight, 33);
-    if !weights.ended && weights.count < 33 {
-        return refusing::say_fault(
-            rt,
-            text,
-            Fault {
-                wanted: Wanted::Weight,
-                at: weights.next,
-            },
-        );
-    }
-    with_weights(rt, text, line.len(), c, weights)
 }
 
 fn answer(rt: &impl Print, text: &[u8]) -> io::Result<()> {
-    let end = text::places::line_length(text);
-    let line = &text[0..end];
-    let head = reading::read_head(line);
-    match head {
-        Head::Unread(fault) => refusing::say_fault(rt, text, fault),
-        Head::Read(c) => with_head(rt, text, line, c),
+    let mut weights = [0; 33];
+    let mut trace = [0; MOST_SAMPLES];
+    match reading::read(text, &mut weights, &mut trace) {
+        Ok(given) => with_trace(
+            rt,
+            text,
+            given.configuration,
+            &weights[..given.weights],
+            &trace[..given.samples],
+        ),
+        Err(fault) => refusing::say_fault(rt, text, fault),
     }
 }
 
 fn main(rt: HostRuntime) -> io::Result<()> {
-    let mut input: [u8; 65537] = [0; 65537];
+    let mut input = [0; MOST_BYTES + 1];
     let n = text::input::read_full(&mut rt.reader(), &mut input)?;
     if MOST_BYTES < n {
-        return refusing::say_fault(
-            &rt,
-            &input,
-            Fault {
-                wanted: Wanted::EndOfInput,
-                at: MOST_BYTES,
-            },
-        );
+        let fault = Fault {
+            wanted: Wanted::EndOfInput,
+            at: MOST_BYTES,
+        };
+        return refusing::say_fault(&rt, &input, fault);
     }
-    answer(&rt, &input[0..n])
+    answer(&rt, &input[..n])
 }

@@ -1,12 +1,12 @@
 // The configuration and the trace, read from the text.
-ghost use Rattle.std.specs.Prelude.{◌≤◌};
+ghost use Rattle.std.specs.Prelude.{◌≤◌, length, IfOk};
 
 use kinds::{Order, Shift, Width};
-use text::signed::Signed64;
-use text::{Found, Word};
+use text::Word;
+use text::signed::to_signed_64;
 
 // What the text had to hold at a place where it holds something else.
-#[derive(Clone, Copy)]
+#[derive(Clone, Copy, Debug, PartialEq, Eq, Hash)]
 pub enum Wanted {
     Width,
     Order,
@@ -19,156 +19,151 @@ pub enum Wanted {
     EndOfInput,
 }
 
-#[derive(Clone, Copy)]
+#[derive(Clone, Copy, Debug, PartialEq, Eq, Hash)]
 pub struct Fault {
     pub wanted: Wanted,
     pub at: usize,
 }
 
-// The first four numbers of the first line, and where the fourth ends. `bits` is the width as a number.
-#[derive(Clone, Copy)]
-pub struct Configuration {
-    pub bits: u64,
+impl Wanted {
+    fn at(self, word: Word) -> Fault {
+        Fault {
+            wanted: self,
+            at: word.start,
+        }
+    }
+}
+
+// The first four numbers of the first line.
+#[derive(Clone, Copy, Debug, PartialEq, Eq, Hash)]
+pub struct Head {
     pub width: Width,
     pub order: Order,
     pub shift: Shift,
     pub bias: i64,
-    pub end: usize,
 }
 
-#[derive(Clone, Copy)]
-pub enum Head {
-    Unread(Fault),
-    Read(Configuration),
+// What was read, with the number of weights and of samples. No heap is used, so the caller has the room for both.
+#[derive(Clone, Copy, Debug, PartialEq, Eq, Hash)]
+pub struct Given {
+    pub configuration: Head,
+    pub weights: usize,
+    pub samples: usize,
 }
 
-// Numbers in the first `count` places; a weight stands as its 32 bits. No heap is used, so there is room for the longest trace. Reading
-// stopped before the word at `next`, or at the end of the text.
-#[derive(Clone, Copy)]
-pub struct Numbers {
-    pub values: [u64; 4096],
-    pub count: usize,
-    pub next: usize,
-    pub ended: bool,
+// How many numbers were read, and the word before which reading stopped. It is empty where the text ends.
+#[derive(Clone, Copy, Debug, PartialEq, Eq, Hash)]
+struct Stop {
+    count: usize,
+    word: Word,
 }
 
-// A word's number where it has no sign and is at most `most`.
-fn within(word: Word, most: u64) -> Found {
-    if word.negative {
-        return Found::Nothing;
-    }
-    let found = word.found;
-    let Found::Number(n) = found else {
-        return Found::Nothing;
-    };
-    if most < n {
-        return Found::Nothing;
-    }
-    Found::Number(n)
-}
-
-// The 32 bits of a word's number where that is -2^31 to 2^31-1.
-fn weight_bits(word: Word) -> Found {
-    let found = word.found;
-    let Found::Number(n) = found else {
-        return Found::Nothing;
-    };
-    if word.negative {
-        if 2147483648 < n {
-            return Found::Nothing;
+impl Stop {
+    fn at_end(self, wanted: Wanted) -> Result<(), Fault> {
+        let word = self.word;
+        if word.start == word.end {
+            return Ok(());
         }
-        return Found::Number((4294967296 - n) % 4294967296);
-    }
-    if 2147483647 < n {
-        return Found::Nothing;
-    }
-    Found::Number(n)
-}
-
-fn number_of(word: Word, wanted: Wanted) -> Found {
-    match wanted {
-        Wanted::Sample(most) => within(word, most),
-        _ => weight_bits(word),
+        Err(wanted.at(word))
     }
 }
 
-fn width_bits(word: Word) -> Found {
-    let found = within(word, 32);
-    let Found::Number(n) = found else {
-        return Found::Nothing;
-    };
-    match n {
-        8 | 16 | 32 => Found::Number(n),
-        _ => Found::Nothing,
+// A word's number where it has no sign.
+fn unsigned(word: Word) -> Option<u64> {
+    if word.negative { None } else { word.found }
+}
+
+fn sample(word: Word, most: u64) -> Option<u64> {
+    unsigned(word).filter(|n| *n <= most)
+}
+
+fn weight(word: Word) -> Option<i32> {
+    i32::try_from(to_signed_64(word)?).ok()
+}
+
+fn width(word: Word) -> Option<Width> {
+    match unsigned(word)? {
+        8 => Some(Width::Eight),
+        16 => Some(Width::Sixteen),
+        32 => Some(Width::ThirtyTwo),
+        _ => None,
     }
 }
 
-fn width_of(bits: u64) -> Width {
-    match bits {
-        8 => Width::Eight,
-        16 => Width::Sixteen,
-        _ => Width::ThirtyTwo,
-    }
+fn order(word: Word) -> Option<Order> {
+    Some(Order(unsigned(word)? as usize))
 }
 
-fn unread(wanted: Wanted, word: Word) -> Head {
-    Head::Unread(Fault {
-        wanted,
-        at: word.start,
-    })
+fn shift(word: Word) -> Option<Shift> {
+    Some(Shift(u32::try_from(unsigned(word)?).ok()?))
 }
 
-// A shift was found within 32 bits, so the remainder is the number itself.
-pub(crate) fn read_head(line: &[u8]) -> Head {
+// The first four numbers of a line, and where the fourth ends.
+fn read_head(line: &[u8]) -> Result<(Head, usize), Fault> {
     let first = text::next_word(line, 0);
-    let Found::Number(bits) = width_bits(first) else {
-        return unread(Wanted::Width, first);
-    };
+    let width = width(first).ok_or(Wanted::Width.at(first))?;
     let second = text::next_word(line, first.end);
-    let Found::Number(order) = within(second, 18446744073709551615) else {
-        return unread(Wanted::Order, second);
-    };
+    let order = order(second).ok_or(Wanted::Order.at(second))?;
     let third = text::next_word(line, second.end);
-    let Found::Number(shift) = within(third, 4294967295) else {
-        return unread(Wanted::Shift, third);
-    };
+    let shift = shift(third).ok_or(Wanted::Shift.at(third))?;
     let fourth = text::next_word(line, third.end);
-    let Signed64::Number(bias) = text::signed::to_signed_64(fourth) else {
-        return unread(Wanted::Bias, fourth);
-    };
-    Head::Read(Configuration {
-        bits,
-        width: width_of(bits),
-        order: Order(order as usize),
-        shift: Shift((shift % 4294967296) as u32),
+    let bias = to_signed_64(fourth).ok_or(Wanted::Bias.at(fourth))?;
+    let configuration = Head {
+        width,
+        order,
+        shift,
         bias,
-        end: fourth.end,
-    })
+    };
+    Ok((configuration, fourth.end))
 }
 
-// The weights or samples from a place on, as many as there are and at most `most`.
-pub(crate) fn read_numbers(text: &[u8], from: usize, wanted: Wanted, most: usize) -> Numbers
-    requires { most ≤ 4096 }
-    ensures { result.count ≤ most }
+// Puts the numbers from a place on into the front of a space, as many as there are and as it has room for.
+fn read_numbers<T: Copy, F: Fn(Word) -> Option<T> + Drop>(
+    text: &[u8],
+    from: usize,
+    space: &mut [T],
+    number_of: F,
+) -> Stop
+    requires { F.IsAlwaysCallable number_of }
+    ensures { result.count ≤ length space.new }
 {
-    let mut values: [u64; 4096] = [0; 4096];
     let mut at = from;
-    let mut count = 0;
-    while count < most {
+    for (i, place) in space.iter_mut().enumerate() {
         let word = text::next_word(text, at);
-        let found = number_of(word, wanted);
-        let Found::Number(n) = found else {
-            break;
+        let Some(number) = number_of(word) else {
+            return Stop { count: i, word };
         };
-        values[count] = n;
+        *place = number;
         at = word.end;
-        count += 1;
     }
-    let word = text::next_word(text, at);
-    Numbers {
-        values,
-        count,
-        next: word.start,
-        ended: word.start == word.end,
+    Stop {
+        count: space.len(),
+        word: text::next_word(text, at),
     }
+}
+
+// An order is at most 32, so that with more weights than 32 every coder gives the same refusal, whatever they are and however many: room
+// for one more than that is enough, and once it is full the rest of the line may hold anything.
+pub(crate) fn read(text: &[u8], weights: &mut [i32], trace: &mut [u64]) -> Result<Given, Fault>
+    ensures { IfOk result (λ given. (given.weights ≤ length weights.new) × (given.samples ≤ length trace.new)) }
+{
+    let line = &text[..text::places::line_length(text)];
+    let (configuration, end) = read_head(line)?;
+    let listed = read_numbers(line, end, weights, weight);
+    if listed.count < weights.len() {
+        listed.at_end(Wanted::Weight)?;
+    }
+    let most = admission::limits::greatest_sample(configuration.width);
+    let samples = read_numbers(text, line.len(), trace, |word| sample(word, most));
+    let wanted = if samples.count < trace.len() {
+        Wanted::Sample(most)
+    } else {
+        Wanted::EndOfTrace
+    };
+    samples.at_end(wanted)?;
+    Ok(Given {
+        configuration,
+        weights: listed.count,
+        samples: samples.count,
+    })
 }

@@ -1,124 +1,111 @@
 // The one line that bad input gets: who refuses, the place, and what is wrong there.
-use crate::reading::{Configuration, Fault, Wanted};
-use crate::saying::{say, say_with};
+use crate::reading::{Fault, Head, Wanted};
 use admission::limits::{accumulator_bits, accumulator_limit, greatest_sample};
-use kinds::Answer;
-use std::io;
+use kinds::{Order, Refusal, Shift};
+use std::{fmt, io};
 
-fn say_place(rt: &impl Print, text: &[u8], at: usize) -> io::Result<()> {
-    let end = slices::least(at, text.len());
-    let place = text::places::place_after(&text[0..end]);
-    say_with(
-        rt,
-        b"line #, column #: ",
-        place.line as u64,
-        place.column as u64,
-    )
+impl fmt::Display for Wanted {
+    fn fmt<W: fmt::Write>(&self, f: &mut fmt::Formatter<W>) -> fmt::Result {
+        let words = match self {
+            Wanted::Sample(most) => {
+                return write!(f, "a sample was expected, a whole number from 0 to {most}");
+            }
+            Wanted::Width => "a width was expected: 8, 16 or 32",
+            Wanted::Order => "an order was expected, a whole number from 1 to 32",
+            Wanted::Shift => "a shift was expected, a whole number below twice the width",
+            Wanted::Bias => {
+                "a bias was expected, a whole number from -9223372036854775808 to 9223372036854775807"
+            }
+            Wanted::Weight =>
+                "a weight was expected, a whole number from -2147483648 to 2147483647",
+            Wanted::EndOfTrace => "the end was expected: a trace has at most 4096 samples",
+            Wanted::EndOfInput => "the end was expected: an input has at most 65536 bytes",
+        };
+        write!(f, "{words}")
+    }
 }
 
-fn say_wanted(rt: &impl Print, wanted: Wanted) -> io::Result<()> {
-    match wanted {
-        Wanted::Width => say(rt, b"a width was expected: 8, 16 or 32"),
-        Wanted::Order => say(rt, b"an order was expected, a whole number from 1 to 32"),
-        Wanted::Shift => say(
-            rt,
-            b"a shift was expected, a whole number below twice the width",
-        ),
-        Wanted::Bias => say(
-            rt,
-            b"a bias was expected, a whole number from -9223372036854775808 to 9223372036854775807",
-        ),
-        Wanted::Weight => say(
-            rt,
-            b"a weight was expected, a whole number from -2147483648 to 2147483647",
-        ),
-        Wanted::Sample(most) => say_with(
-            rt,
-            b"a sample was expected, a whole number from 0 to #",
-            most,
-            0,
-        ),
-        Wanted::EndOfTrace => say(
-            rt,
-            b"the end was expected: a trace has at most 4096 samples",
-        ),
-        Wanted::EndOfInput => say(
-            rt,
-            b"the end was expected: an input has at most 65536 bytes",
-        ),
-    }
+// A place of a text, by its number.
+fn place(text: &[u8], at: usize) -> text::places::Place {
+    text::places::place_after(&text[..at.min(text.len())])
 }
 
 // The text is no configuration and trace. No refusal has a number for that.
 pub(crate) fn say_fault(rt: &impl Print, text: &[u8], fault: Fault) -> io::Result<()> {
-    say(rt, b"refused (text): ")?;
-    say_place(rt, text, fault.at)?;
-    let wanted = fault.wanted;
-    say_wanted(rt, wanted)?;
-    say(rt, b"\n")
+    let place = place(text, fault.at);
+    println!(rt; "refused (text): {place}: {}", fault.wanted)
 }
 
 // Where the n-th word of a text starts, from 0 on.
-fn nth_start(text: &[u8], n: usize) -> usize {
+fn nth_start(text: &[u8], n: u32) -> usize {
     let mut at = 0;
-    let mut i = 0;
-    while i < n {
-        let word = text::next_word(text, at);
-        at = word.end;
-        i += 1;
+    for _ in 0..n {
+        at = text::next_word(text, at).end;
     }
-    let word = text::next_word(text, at);
-    word.start
+    text::next_word(text, at).start
 }
 
 // The place that a refusal speaks of. After the width stand the order, the shift, the bias and the weights, which refusals 1 to 4
 // speak of: the refusal's number is that of its word. Samples are missing at the end of the text.
-fn place_of(text: &[u8], number: usize) -> usize {
-    if number == 5 {
+fn place_of(text: &[u8], refusal: Refusal) -> usize {
+    if refusal == Refusal::TooFewSamples {
         return text.len();
     }
-    let end = text::places::line_length(text);
-    nth_start(&text[0..end], number)
+    nth_start(&text[..text::places::line_length(text)], refusal.number())
+}
+
+// What a coder refused, and of how many samples.
+#[derive(Clone, Copy, Debug, PartialEq, Eq, Hash)]
+struct Refused {
+    configuration: Head,
+    samples: usize,
+    refusal: Refusal,
+}
+
+impl fmt::Display for Refused {
+    fn fmt<W: fmt::Write>(&self, f: &mut fmt::Formatter<W>) -> fmt::Result {
+        let Head {
+            width,
+            order: Order(order),
+            shift: Shift(shift),
+            ..
+        } = self.configuration;
+        match self.refusal {
+            Refusal::BadOrder => write!(f, "the order is {order}, and must be 1 to 32"),
+            Refusal::BadShift => write!(
+                f,
+                "the shift is {shift}, and must be below {}",
+                accumulator_bits(width)
+            ),
+            Refusal::Overflows => write!(
+                f,
+                "the absolute bias plus {} times the sum of the absolute weights must be at most {}",
+                greatest_sample(width),
+                accumulator_limit(width)
+            ),
+            Refusal::BadLength => write!(f, "the weights must number {order}, which is the order"),
+            _ => write!(
+                f,
+                "the trace has {} samples, and must have at least {order}, which is the order",
+                self.samples
+            ),
+        }
+    }
 }
 
 // The coder's own answer.
 pub(crate) fn say_refusal(
     rt: &impl Print,
     text: &[u8],
-    c: Configuration,
+    configuration: Head,
     samples: usize,
-    answer: Answer,
+    refusal: Refusal,
 ) -> io::Result<()> {
-    let number = kinds::number(answer);
-    let order = c.order.0 as u64;
-    let width = c.width;
-    say_with(rt, b"refused #: ", number as u64, 0)?;
-    say_place(rt, text, place_of(text, number as usize))?;
-    match number {
-        1 => say_with(rt, b"the order is #, and must be 1 to 32\n", order, 0),
-        2 => say_with(
-            rt,
-            b"the shift is #, and must be below #\n",
-            c.shift.0 as u64,
-            accumulator_bits(width) as u64,
-        ),
-        3 => say_with(
-            rt,
-            b"the absolute bias plus # times the sum of the absolute weights must be at most #\n",
-            greatest_sample(width),
-            accumulator_limit(width),
-        ),
-        4 => say_with(
-            rt,
-            b"the weights must number #, which is the order\n",
-            order,
-            0,
-        ),
-        _ => say_with(
-            rt,
-            b"the trace has # samples, and must have at least #, which is the order\n",
-            samples as u64,
-            order,
-        ),
-    }
+    let place = place(text, place_of(text, refusal));
+    let refused = Refused {
+        configuration,
+        samples,
+        refusal,
+    };
+    println!(rt; "{refusal}: {place}: {refused}")
 }

@@ -4,4 +4,4 @@ use Rattle.calls.proofs.Leaving.{decode_numbered}
 use Rattle.boundary_32.proofs.claspotter_decode_general_u32.Goals as goal
 
 pub returns : goal.returns
-returns c = decode_numbered c.number.ensures (rw (to_z-of_z c.ranges.bias) at c.decode_by-said.ensures)
+returns c = decode_numbered c.number.ensures (rw (to_z-of_z c.ranges.bias) at c.decode_by.ensures)

@@ -4,4 +4,4 @@ use Rattle.calls.proofs.Leaving.{encode_numbered}
 use Rattle.boundary_8.proofs.claspotter_encode_u8.Goals as goal
 
 pub returns : goal.returns
-returns c = encode_numbered c.number.ensures (rw (to_z-of_z c.ranges.bias) at c.encode_into-said.ensures)
+returns c = encode_numbered c.number.ensures (rw (to_z-of_z c.ranges.bias) at c.encode_into.ensures)

@@ -4,9 +4,7 @@ use Rattle.entries.proofs.Turns as turns
 use Rattle.entries.proofs.write_entry.Goals as goal
 
 pub loop-i-preserved : goal.loop-i-preserved
-loop-i-preserved c =
-    (omega arith, rw c.low.ensures (turns.write_turn c.args.bytes.now c.args.at c.args.value c.loop-i.invariant.1 (omega arith)))
+loop-i-preserved c = turns.write_turn c.args.bytes.now c.args.at c.args.value c.loop-i.invariant (omega arith)
 
 pub returns : goal.returns
-returns c =
-    turns.write_end c.args.bytes.now c.args.at c.args.value c.loop-i.invariant.1 c.args.width (omega arith)
+returns c = turns.write_end c.args.bytes.now c.args.at c.args.value c.loop-i.invariant c.args.width (omega arith)

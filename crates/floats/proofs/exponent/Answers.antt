@@ -2,12 +2,12 @@
 use Rattle.floats.proofs.Exponents.{zeros_bound, leading_exponent}
 use Rattle.floats.proofs.exponent.Goals as goal
 
-pub overflow_sub-result : goal.overflow_sub-result
-overflow_sub-result c =
+pub overflow_sub-parts : goal.overflow_sub-parts
+overflow_sub-parts c =
     let r = c.unpack-parts.result in
     zeros_bound c.args.x r.negative r.digits r.shift c.requires c.unpack-parts.ensures
 
 pub returns : goal.returns
 returns c =
     let r = c.unpack-parts.result in
-    leading_exponent c.args.x r.negative r.digits r.shift c.requires c.unpack-parts.ensures
+    rw c.from.ensures (leading_exponent c.args.x r.negative r.digits r.shift c.requires c.unpack-parts.ensures)

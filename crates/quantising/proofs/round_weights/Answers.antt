@@ -1,6 +1,5 @@
 -- A weight that is outside 32 bits decides that not all fit; one that is inside is the next of the integers.
-use Rattle.std.proofs.Common.{◌≡◌, sym, ap, ◌∙◌, Bool, false, ◌&&◌, ◌≤◌, ◌+◌, ℤ, arith, length, get_or, take, drop, to_z, of_z, w32, w64}
-use mathlib.Core.Bool.{true≢false}
+use Rattle.std.proofs.Common.{◌≡◌, sym, ap, ◌∙◌, Bool, false, ◌&&◌, ◌+◌, ℤ, arith, get_or, drop, to_z, of_z, w32, w64}
 use Rattle.std.specs.Float.{Float}
 use Rattle.std.specs.Float.Ieee.{nan}
 use Rattle.std.proofs.Math.ListN.{length-set}
@@ -24,43 +23,35 @@ module _ (x : Float) (v : ℤ) (rule : Handed 32 x (rounded_of x) v) where
   back : to_z w32 (of_z w32 (to_z w64 (of_z w64 v))) ≡ v
   back = rw (to_z-of_z {w = w64} fits_64, to_z-of_z {w = w32} fits_32)
 
-pub returns-in_default : goal.returns-in_default
-returns-in_default c =
+pub returns-in_err-rounded : goal.returns-in_err-rounded
+returns-in_err-rounded c =
     let l = c.loop-i in
-    let a = c.args in
-    let x = get_or a.weights l.i nan ⊗ a.factor in
-    let out : holds 32 x (rounded_of x) ≡ false = outside 32 x (rounded_of x) (sym c.in_default.is ∙ c.round_away-integer.ensures) in
-    let all : weights_hold a.factor (take a.order.0 a.weights) ≡ false =
-    sym l.invariant.fits ∙ hold_turn a.weights a.order.0 l.i (omega arith) c.loop-i-test.true a.factor
-    ∙ ap (λ (b : Bool). b && weights_hold a.factor (drop (l.i + 1) (take a.order.0 a.weights))) out in
-    record { places = l.invariant.places; fits = sym all; values = λ h. absurd (true≢false (sym h)) }
+    let ws = c.args.weights.now in
+    let p = c.args.factor in
+    let x = get_or ws l.i nan ⊗ p in
+    let out : holds 32 x (rounded_of x) ≡ false = outside 32 x (rounded_of x) c.in_err-rounded.ensures in
+    rw c.from_residual.ensures
+    (sym l.invariant.fits ∙ hold_turn ws l.i c.loop-i-test.true p ∙ ap (λ (b : Bool). b && weights_hold p (drop (l.i + 1) ws)) out)
 
 pub overflow_cast-rounded : goal.overflow_cast-rounded
 overflow_cast-rounded c =
-    let x = get_or c.args.weights c.loop-i.i nan ⊗ c.args.factor in
-    let v = c.in-At.w in
-    let rule = handed 32 x (rounded_of x) v (sym c.in-At.is ∙ c.round_away-integer.ensures) in
+    let x = get_or c.args.weights.now c.loop-i.i nan ⊗ c.args.factor in
+    let v = c.in_ok-rounded.field-0 in
+    let rule = handed 32 x (rounded_of x) v c.in_ok-rounded.ensures in
     rw (to_z-of_z {w = w64} (fits_64 x v rule)) (fits_32 x v rule)
 
 pub loop-i-preserved : goal.loop-i-preserved
 loop-i-preserved c =
     let l = c.loop-i in
-    let a = c.args in
-    let x = get_or a.weights l.i nan ⊗ a.factor in
-    let v = c.in-At.w in
-    let rule = handed 32 x (rounded_of x) v (sym c.in-At.is ∙ c.round_away-integer.ensures) in
+    let ws = c.args.weights.now in
+    let p = c.args.factor in
+    let x = get_or ws l.i nan ⊗ p in
+    let v = c.in_ok-rounded.field-0 in
+    let rule = handed 32 x (rounded_of x) v c.in_ok-rounded.ensures in
     let kept = to_z w32 (of_z w32 (to_z w64 (of_z w64 v))) in
-    let room : a.order.0 ≤ length a.weights = omega arith in
     let more = c.loop-i-test.true in
     record {
-      within = omega arith;
-      room = l.invariant.room;
-      given = l.invariant.given;
       places = length-set l.rounded l.i kept ∙ l.invariant.places;
-      fits =
-          sym (hold_turn a.weights a.order.0 l.i room more a.factor ∙ ap (λ (b : Bool). b && weights_hold a.factor (drop (l.i + 1) (take a.order.0 a.weights))) rule.fits)
-          ∙ l.invariant.fits;
-      values =
-          round_turn a.weights a.order.0 l.i room more a.factor l.rounded kept (omega arith) (back x v rule ∙ rule.is)
-          ∙ l.invariant.values;
+      fits = sym (hold_turn ws l.i more p ∙ ap (λ (b : Bool). b && weights_hold p (drop (l.i + 1) ws)) rule.fits) ∙ l.invariant.fits;
+      values = round_turn ws l.i more p l.rounded kept (omega arith) (back x v rule ∙ rule.is) ∙ l.invariant.values;
     }

@@ -1,34 +1,28 @@
 -- a turn puts the first of the weights that are left
-use Rattle.std.proofs.Common.{◌≡◌, ◌+◌, ◌-◌, List, ◌∷◌, ℕ, suc, ℤ, pos, map, length, get_or, take, drop, sym, ap, ◌∙◌, arith, rules, add-one, w32, FitsSigned}
-use Rattle.std.proofs.Math.Seq.{length-take-le, drop-cons, get_or-take}
+use Rattle.std.proofs.Common.{◌≡◌, ◌+◌, ◌-◌, ◌<◌, List, ℕ, suc, ℤ, pos, length, get_or, take, ap, ◌∙◌, arith, rules, add-one, w32, FitsSigned}
+use Rattle.std.proofs.Math.Seq.{drop-cons}
 use Rattle.std.proofs.Math.Facts.{to_z-of_z}
 use Rattle.bits.specs.Fields.{with_field}
-use Rattle.record.specs.Format.{weight_fields}
 use Rattle.record.specs.Signed.{raised}
 use Rattle.record.specs.Widths.{weight_bits}
-use Rattle.record.specs.Writing.{put_fields}
 use Rattle.record_writing.proofs.write_weights.Invariants.{place, put_rest}
 use Rattle.record_writing.proofs.write_weights.Goals as goal
+
+turn : (bytes : List ℕ) (ws : List ℤ) (i : ℕ) → i < length ws →
+    put_rest (with_field bytes (place i) weight_bits (raised 31 (get_or ws i (pos 0)))) ws (i + 1) ≡ put_rest bytes ws i
+turn bytes ws i h =
+    let w = get_or ws i (pos 0) in
+    let fewer : length ws - i ≡ suc (length ws - (i + 1)) = omega arith in
+    let behind : place (i + 1) ≡ place i + weight_bits = omega arith in
+    rw (drop-cons ws i (pos 0) h, fewer, behind, add-one i)
 
 pub loop-i-preserved : goal.loop-i-preserved
 loop-i-preserved c =
     let l = c.loop-i in
-    let a = c.args in
-    let k = a.order.0 in
-    let ws = take k a.weights in
-    let w = get_or a.weights l.i (pos 0) in
-    let long : length a.weights ≡ 32 = search rules in
-    let long_take : length ws ≡ k = length-take-le k a.weights (omega (arith, long)) in
+    let ws = take c.args.order.0 c.args.weights in
+    let w = get_or ws l.i (pos 0) in
     let fits : FitsSigned w32 w = search rules in
     let latent : c.weight_to_latent_ordered.result ≡ raised 31 w = c.weight_to_latent_ordered.ensures ∙ ap (raised 31) (to_z-of_z fits) in
-    let next : drop l.i ws ≡ w ∷ drop (l.i + 1) ws
-    = drop-cons ws l.i (pos 0) (omega arith) ∙ ap (λ (z : ℤ). z ∷ drop (suc l.i) ws) (get_or-take k a.weights l.i (pos 0) (omega arith)) ∙ ap (λ (n : ℕ). w ∷ drop n ws) (sym (add-one l.i)) in
-    let fewer : suc (k - (l.i + 1)) ≡ k - l.i = omega arith in
-    let behind : place l.i + weight_bits ≡ place (l.i + 1) = omega arith in (
-      omega arith,
-      ap (λ (b : List ℕ). put_rest b k ws (l.i + 1)) (c.write_uint.ensures ∙ ap (with_field l.bytes (place l.i) weight_bits) latent)
-          ∙ ap (λ (n : ℕ). put_fields (with_field l.bytes (place l.i) weight_bits (raised 31 w)) n (weight_fields (k - (l.i + 1))) (map (raised 31) (drop (l.i + 1) ws))) (sym behind)
-          ∙ ap (λ (zs : List ℤ). put_fields l.bytes (place l.i) (weight_fields (suc (k - (l.i + 1)))) (map (raised 31) zs)) (sym next)
-          ∙ ap (λ (n : ℕ). put_fields l.bytes (place l.i) (weight_fields n) (map (raised 31) (drop l.i ws))) fewer
-          ∙ l.invariant.1,
-    )
+    ap (λ (b : List ℕ). put_rest b ws (l.i + 1)) (c.write_uint.ensures ∙ ap (with_field l.bytes (place l.i) weight_bits) latent)
+    ∙ turn l.bytes ws l.i c.loop-i-test.true
+    ∙ l.invariant

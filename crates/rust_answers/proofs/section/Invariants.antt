@@ -1,6 +1,6 @@
--- A line starts behind the end of the last one.
-use Rattle.std.proofs.Common.{◌-◌, length}
+-- Each line leaves less of the text.
+use Rattle.std.proofs.Common.{length}
 use Rattle.rust_answers.proofs.section.Given as goal
 
-abbrev pub decreases-loop-at : goal.decreases-loop-at
-decreases-loop-at g l = length l.words - l.at
+abbrev pub decreases-loop-words : goal.decreases-loop-words
+decreases-loop-words g l = length l.cursor.rest.now

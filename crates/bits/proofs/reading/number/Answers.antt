@@ -12,13 +12,13 @@ shifted bytes at i sum b e h s =
     (shl_exact {a = b} 1 i 64 (omega (arith, e)) (omega (arith, h)), omega (arith, field_more bytes at i, f, s))
 
 pub loop-i-init : goal.loop-i-init
-loop-i-init c = (omega arith, sym (field_none c.args.bytes.now c.args.at))
+loop-i-init c = sym (field_none c.args.bytes.now c.args.at)
 
 pub overflow_add-sum : goal.overflow_add-sum
 overflow_add-sum c =
     let a = c.args in
     let l = c.loop-i in
-    let s = shifted a.bytes.now a.at l.i l.sum c.bit.result c.bit.ensures (omega arith) l.invariant.1 in
+    let s = shifted a.bytes.now a.at l.i l.sum c.bit.result c.bit.ensures (omega arith) l.invariant in
     let m = pow_mono {i = l.i + 1} {j = 64} (omega arith) in
     rw s.0 (record { fits = omega (arith, s.1, field_lt a.bytes.now a.at (l.i + 1), m) })
 
@@ -26,11 +26,11 @@ pub loop-i-preserved : goal.loop-i-preserved
 loop-i-preserved c =
     let a = c.args in
     let l = c.loop-i in
-    let s = shifted a.bytes.now a.at l.i l.sum c.bit.result c.bit.ensures (omega arith) l.invariant.1 in
-    (omega arith, rw s.0 s.1)
+    let s = shifted a.bytes.now a.at l.i l.sum c.bit.result c.bit.ensures (omega arith) l.invariant in
+    rw s.0 s.1
 
 pub returns : goal.returns
 returns c =
     let l = c.loop-i in
     let e : l.i ≡ c.args.width = omega arith in
-    l.invariant.1 ∙ ap (field_at c.args.bytes.now c.args.at) e
+    l.invariant ∙ ap (field_at c.args.bytes.now c.args.at) e

@@ -8,16 +8,15 @@ use Rattle.bits.proofs.writing.write_uint.Goals as goal
 pub loop-i-init : goal.loop-i-init
 loop-i-init c =
     let a = c.args in
-    (omega arith, omega arith, sym (put_none a.bytes.now a.at a.value))
+    (omega arith, sym (put_none a.bytes.now a.at a.value))
 
 pub loop-i-preserved : goal.loop-i-preserved
 loop-i-preserved c =
     let l = c.loop-i in
     let a = c.args in (
-      omega arith,
-      ap (λ (n : ℕ). n / 2) l.invariant.1 ∙ shr-shr a.value l.i 1,
+      ap (λ (n : ℕ). n / 2) l.invariant.0 ∙ shr-shr a.value l.i 1,
       c.put_bit.ensures
-          ∙ ap (λ (n : ℕ). with_bit l.bytes (a.at + l.i) (n % 2)) l.invariant.1
-          ∙ ap (λ (b : List ℕ). with_bit b (a.at + l.i) (bit_of a.value l.i)) l.invariant.2
+          ∙ ap (λ (n : ℕ). with_bit l.bytes (a.at + l.i) (n % 2)) l.invariant.0
+          ∙ ap (λ (b : List ℕ). with_bit b (a.at + l.i) (bit_of a.value l.i)) l.invariant.1
           ∙ sym (put_more a.bytes.now a.at l.i a.value),
     )

@@ -3,7 +3,7 @@ use Rattle.std.proofs.Common.{◌-◌, ◌≤◌}
 use Rattle.coding_vectors.proofs.trial.decode_pieces.Given as goal
 
 abbrev pub invariant-loop-start : goal.invariant-loop-start
-invariant-loop-start l = l.start ≤ l.n
+invariant-loop-start l = l.start ≤ l.c.count
 
 abbrev pub decreases-loop-start : goal.decreases-loop-start
-decreases-loop-start l = l.n - l.start
+decreases-loop-start l = l.c.count - l.start

@@ -1,6 +1,0 @@
--- The loop goes up to the row's end.
-use Rattle.std.proofs.Common.{◌-◌}
-use Rattle.coding_vectors.proofs.coder_8.narrow.Given as goal
-
-abbrev pub decreases-loop-i : goal.decreases-loop-i
-decreases-loop-i l = 2048 - l.i

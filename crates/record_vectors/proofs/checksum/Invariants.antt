@@ -1,9 +1,0 @@
--- The sum stays below the modulus.
-use Rattle.std.proofs.Common.{◌-◌, ◌<◌}
-use Rattle.record_vectors.proofs.checksum.Given as goal
-
-abbrev pub invariant-loop-n : goal.invariant-loop-n
-invariant-loop-n l = l.sum < 1000003
-
-abbrev pub decreases-loop-n : goal.decreases-loop-n
-decreases-loop-n l = 65536 - l.n

@@ -1,0 +1,3 @@
+pub mod Signs
+pub mod Numbers
+pub mod Sizes

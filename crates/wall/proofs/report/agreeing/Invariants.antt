@@ -1,9 +1,0 @@
--- The count never passes what is compared, which both rooms hold.
-use Rattle.std.proofs.Common.{◌-◌, ◌≤◌}
-use Rattle.wall.proofs.report.agreeing.Given as goal
-
-abbrev pub invariant-loop-i : goal.invariant-loop-i
-invariant-loop-i l = l.i ≤ l.count
-
-abbrev pub decreases-loop-i : goal.decreases-loop-i
-decreases-loop-i l = l.count - l.i
