@@ -94,7 +94,15 @@ pub fn decode_by<S: Sample>(
 ) -> Result<(), Refusal>
     ensures { left result state.new piece.new ≡ decode_bytes way S.W (laid config.entry) (ragged S.W config.entry.weights.now state.old piece.old) state.old piece.old }
 {
-    crate::layout_answer_by(way, S::WIDTH, config, state.len(), piece.len())?;
+    crate::layout_answer_by(
+        way,
+        S::WIDTH,
+        config.order,
+        config.shift,
+        config.weights.len(),
+        state.len(),
+        piece.len(),
+    )?;
     let mut numbers = [0; 32];
     entries::weights::load_i32(config.weights, &mut numbers);
     decode_laid::<S>(way, config.with(&numbers[..config.order.0]), state, piece)

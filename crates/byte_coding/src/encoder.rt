@@ -70,7 +70,14 @@ pub fn encode<S: Sample>(
 ) -> Result<(), Refusal>
     ensures { left result samples.new state.new ≡ encode_bytes S.W (laid config.entry) (ragged S.W config.entry.weights.now state.old samples.old) samples.old state.old }
 {
-    crate::layout_answer(S::WIDTH, config, state.len(), samples.len())?;
+    crate::layout_answer(
+        S::WIDTH,
+        config.order,
+        config.shift,
+        config.weights.len(),
+        state.len(),
+        samples.len(),
+    )?;
     let mut numbers = [0; 32];
     entries::weights::load_i32(config.weights, &mut numbers);
     encode_laid::<S>(config.with(&numbers[..config.order.0]), samples, state)

@@ -2,12 +2,12 @@
 // lengths of byte slices.
 #![tactic(auto)]
 
-ghost use Rattle.std.specs.Prelude.{◌≡◌, ◌/◌, length};
+ghost use Rattle.std.specs.Prelude.{◌≡◌, ◌/◌};
 ghost use Rattle.kinds.specs.Widths.{bits_of};
 ghost use Rattle.byte_coding.specs.Lengths.{layout_refusal, layout_by};
 
 use calls::Way;
-use kinds::{Configuration, Refusal, Width};
+use kinds::{Order, Refusal, Shift, Width};
 
 pub mod decoder;
 pub mod encoder;
@@ -27,25 +27,22 @@ fn sample_bytes(width: Width) -> usize
 #[tactic(auto, unfolding(crate::specs::Lengths::layout_refusal))]
 pub fn layout_answer(
     width: Width,
-    config: Configuration<'_, u8>,
+    order: Order,
+    shift: Shift,
+    weights: usize,
     state: usize,
     samples: usize,
 ) -> Result<(), Refusal>
-    ensures { result ≡ layout_refusal (bits_of width) config.entry.order.0 config.entry.shift.0 (length config.entry.weights.now) state samples }
+    ensures { result ≡ layout_refusal (bits_of width) order.0 shift.0 weights state samples }
 {
-    if !admission::limits::is_order(config.order) {
+    if !admission::limits::is_order(order) {
         return Err(Refusal::BadOrder);
     }
-    if !admission::limits::is_shift(width, config.shift) {
+    if !admission::limits::is_shift(width, shift) {
         return Err(Refusal::BadShift);
     }
-    let weights = config.weights.len();
     let bytes = sample_bytes(width);
-    if weights % 4 != 0
-        || state % bytes != 0
-        || samples % bytes != 0
-        || weights / 4 != config.order.0
-    {
+    if weights % 4 != 0 || state % bytes != 0 || samples % bytes != 0 || weights / 4 != order.0 {
         return Err(Refusal::BadLength);
     }
     Ok(())
@@ -56,14 +53,16 @@ pub fn layout_answer(
 pub fn layout_answer_by(
     way: Way,
     width: Width,
-    config: Configuration<'_, u8>,
+    order: Order,
+    shift: Shift,
+    weights: usize,
     state: usize,
     samples: usize,
 ) -> Result<(), Refusal>
-    ensures { result ≡ layout_by way (bits_of width) config.entry.order.0 config.entry.shift.0 (length config.entry.weights.now) state samples }
+    ensures { result ≡ layout_by way (bits_of width) order.0 shift.0 weights state samples }
 {
-    if way == Way::OrderSix && config.order.0 != 6 {
+    if way == Way::OrderSix && order.0 != 6 {
         return Err(Refusal::BadOrder);
     }
-    layout_answer(width, config, state, samples)
+    layout_answer(width, order, shift, weights, state, samples)
 }

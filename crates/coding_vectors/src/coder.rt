@@ -15,12 +15,11 @@ fn narrow<S: Sample, const N: usize>(numbers: &[u64]) -> [S; N] {
     row
 }
 
-fn widen<S: Sample>(samples: &[S]) -> [u64; 2048] {
-    let mut numbers = [0; 2048];
+// The samples' numbers in the first places.
+fn widen<S: Sample>(samples: &[S], numbers: &mut [u64]) {
     for (place, sample) in numbers.iter_mut().zip(samples) {
         *place = u64::from(sample.to_number());
     }
-    numbers
 }
 
 // One call, on the samples from a place on, up to another.
@@ -56,7 +55,8 @@ fn code<S: Sample>(
     }
 }
 
-pub(crate) fn call<S: Sample>(c: Case, way: Way, from: usize, end: usize, tape: Tape) -> Tape
+// The tape is lent: it is long, and a piece changes little of it.
+pub(crate) fn call<S: Sample>(c: Case, way: Way, from: usize, end: usize, tape: &mut Tape)
     requires { (from ≤ end) × (end ≤ 2048) }
 {
     let mut row: [S; 2048] = narrow(&tape.row);
@@ -65,10 +65,8 @@ pub(crate) fn call<S: Sample>(c: Case, way: Way, from: usize, end: usize, tape: 
         count: SampleCount(tape.kept),
     };
     let done = code(c, way, state, &mut row, from, end);
-    Tape {
-        said: done.said,
-        row: widen(&row),
-        held: widen(&done.state.samples),
-        kept: done.state.count.0,
-    }
+    tape.said = done.said;
+    widen(&row, &mut tape.row);
+    widen(&done.state.samples, &mut tape.held);
+    tape.kept = done.state.count.0;
 }

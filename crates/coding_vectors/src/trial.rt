@@ -69,7 +69,7 @@ fn trace_of(width: Width) -> [u64; 2048] {
 }
 
 // One call of a coder, on the samples from a place on, up to another.
-fn call(c: Case, way: Way, from: usize, end: usize, tape: Tape) -> Tape
+fn call(c: Case, way: Way, from: usize, end: usize, tape: &mut Tape)
     requires { (from ≤ end) × (end ≤ 2048) }
 {
     match c.width {
@@ -80,25 +80,25 @@ fn call(c: Case, way: Way, from: usize, end: usize, tape: Tape) -> Tape
 }
 
 // An empty piece, then pieces of 37 residuals.
-fn decode_pieces(c: Case, way: Way, coded: Tape) -> Tape
+fn decode_pieces(c: Case, way: Way, tape: &mut Tape)
     requires { c.order ≤ c.count }
 {
     let mut start = c.order;
-    let mut tape = call(c, way, start, start, coded);
+    call(c, way, start, start, tape);
     // The row is one array of both, and a lent part says nothing of what a chunk wrote, so the pieces are cut by their places.
     while start < c.count {
         let end = start + (c.count - start).min(37);
-        tape = call(c, way, start, end, tape);
+        call(c, way, start, end, tape);
         start = end;
     }
-    tape
 }
 
 // Decodes in pieces, prints, and compares with the trace.
 fn decode(rt: &impl Print, c: Case, way: Way, coded: Tape, trace: [u64; 2048]) -> io::Result<()>
     requires { c.order ≤ c.count }
 {
-    let last = decode_pieces(c, way, coded);
+    let mut last = coded;
+    decode_pieces(c, way, &mut last);
     let outputs = &last.row[c.order..c.count];
     print!(rt; " {}", sum(outputs))?;
     print!(rt; " {}", sum(&last.held[..32]))?;
@@ -110,20 +110,20 @@ fn decode(rt: &impl Print, c: Case, way: Way, coded: Tape, trace: [u64; 2048]) -
 // Encodes a trace, prints, and goes on where there are residuals.
 fn encode(rt: &impl Print, c: Case, way: Way) -> io::Result<()> {
     let trace = trace_of(c.width);
-    let fresh = Tape {
+    let mut tape = Tape {
         said: Ok(()),
         row: trace,
         held: [0; 2048],
         kept: 0,
     };
-    let coded = call(c, Way::Encoding, 0, c.count, fresh);
-    print!(rt; " {}", kinds::number(coded.said))?;
-    print!(rt; " {}", sum(&coded.row[..c.count]))?;
-    print!(rt; " {}", sum(&coded.held[..32]))?;
-    if coded.said.is_err() || c.count <= c.order {
+    call(c, Way::Encoding, 0, c.count, &mut tape);
+    print!(rt; " {}", kinds::number(tape.said))?;
+    print!(rt; " {}", sum(&tape.row[..c.count]))?;
+    print!(rt; " {}", sum(&tape.held[..32]))?;
+    if tape.said.is_err() || c.count <= c.order {
         return Ok(());
     }
-    decode(rt, c, way, coded, trace)
+    decode(rt, c, way, tape, trace)
 }
 
 pub(crate) fn run(rt: &impl Print, c: Case, way: Way) -> io::Result<()> {

@@ -19,17 +19,21 @@ use Rattle.rule.proofs.Sums.{prefix_inside, product_inside, sum_next, sum_whole}
 use Rattle.sample.proofs.Numbers.{numbers-append, numbers-drop}
 use Rattle.decoding.specs.Running.{six, running_sums, Runs, shifted}
 
--- six elements are the list
+-- six elements are the list, whatever stands for one that is missing
+pub all_six : {A : Type 0} (l : List A) → length l ≡ 6 → (a b c d e f : A)
+    → six (get_or l 0 a) (get_or l 1 b) (get_or l 2 c) (get_or l 3 d) (get_or l 4 e) (get_or l 5 f) ≡ l
+all_six [] h = absurd (omega arith)
+all_six (a ∷ []) h = absurd (omega arith)
+all_six (a ∷ b ∷ []) h = absurd (omega arith)
+all_six (a ∷ b ∷ c ∷ []) h = absurd (omega arith)
+all_six (a ∷ b ∷ c ∷ d ∷ []) h = absurd (omega arith)
+all_six (a ∷ b ∷ c ∷ d ∷ e ∷ []) h = absurd (omega arith)
+all_six (a ∷ b ∷ c ∷ d ∷ e ∷ f ∷ []) h = λ u v w x y z. refl
+all_six (a ∷ b ∷ c ∷ d ∷ e ∷ f ∷ g ∷ l) h = absurd (omega arith)
+
 pub six_are : {A : Type 0} (d : A) (l : List A) → length l ≡ 6
     → six (get_or l 0 d) (get_or l 1 d) (get_or l 2 d) (get_or l 3 d) (get_or l 4 d) (get_or l 5 d) ≡ l
-six_are d [] e = absurd (omega arith)
-six_are d (a ∷ []) e = absurd (omega arith)
-six_are d (a ∷ b ∷ []) e = absurd (omega arith)
-six_are d (a ∷ b ∷ c ∷ []) e = absurd (omega arith)
-six_are d (a ∷ b ∷ c ∷ f ∷ []) e = absurd (omega arith)
-six_are d (a ∷ b ∷ c ∷ f ∷ g ∷ []) e = absurd (omega arith)
-six_are d (a ∷ b ∷ c ∷ f ∷ g ∷ h ∷ []) e = refl
-six_are d (a ∷ b ∷ c ∷ f ∷ g ∷ h ∷ i ∷ l) e = absurd (omega arith)
+six_are d l h = all_six l h d d d d d d
 
 -- the oldest of six goes, and y comes
 pub shifted_are : {A : Type 0} (l : List A) → length l ≡ 6 → (a b c d e y : A)

@@ -98,7 +98,9 @@ fn decode_residuals<S: Sample>(six: Six<S::Wide>, state: &mut [S], residuals: &m
         residuals[i] = running.samples[0];
         running = next(running, six, sample);
     }
-    state.copy_from_slice(&running.samples);
+    // One by one: lent as they lie, the six would have their place in memory in each turn of the loop.
+    let [a, b, c, d, e, f] = running.samples;
+    state.copy_from_slice(&[a, b, c, d, e, f]);
 }
 
 // Decodes a piece where it lies, as the general way does, by a configuration of order 6 whose tests have passed: outputs lag by 6, and

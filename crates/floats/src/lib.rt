@@ -1,4 +1,4 @@
-// Floats taken apart: every answer is worked out from the bits, so none is an estimate.
+// Floats taken apart: exponents and integers are worked out from the bits, so none is an estimate.
 #![tactic(auto)]
 
 ghost use Rattle.std.specs.Prelude.{◌≡◌, T};

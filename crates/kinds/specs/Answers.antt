@@ -1,5 +1,5 @@
 -- The refusal table: each refusal's number, and the two ways in which answers are put together.
-use Rattle.std.specs.Prelude.{Bool, true, false, cond, ℕ, Result, Ok, Err, is_ok}
+use Rattle.std.specs.Prelude.{Bool, true, false, cond, List, ◌++◌, ℕ, Result, Ok, Err, is_ok, codes, decimal}
 use Rattle.kinds.specs.declared.Refusal.{Refusal}
 use Rattle.kinds.specs.declared.Refusal.TheVariants.{BadOrder, BadShift, Overflows, BadLength, TooFewSamples, NoConfiguration, BytesEnd, UnknownVariant, BadRecord, UnfitField, NoRoom}
 
@@ -15,6 +15,10 @@ number_of UnknownVariant = 8
 number_of BadRecord = 9
 number_of UnfitField = 10
 number_of NoRoom = 11
+
+-- what is printed of a refusal
+abbrev pub refusal_text : Refusal → List ℕ
+refusal_text r = codes "refused " ++ decimal (number_of r)
 
 -- 0 is done
 abbrev pub answer_number : {A : Type 0} → Result A Refusal → ℕ

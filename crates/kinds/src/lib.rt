@@ -1,8 +1,8 @@
 // The kinds of number that must never stand for one another, and the refusals of every call.
 #![tactic(auto)]
 
-ghost use Rattle.std.specs.Prelude.{◌≡◌};
-ghost use Rattle.kinds.specs.Answers.{number_of, answer_number};
+ghost use Rattle.std.specs.Prelude.{◌≡◌, Some};
+ghost use Rattle.kinds.specs.Answers.{number_of, answer_number, refusal_text};
 
 use std::error::Error;
 use std::fmt;
@@ -95,6 +95,8 @@ impl Refusal {
 }
 
 impl fmt::Display for Refusal {
+    ghost output = { λ refusal. Some (refusal_text refusal) };
+
     fn fmt<W: fmt::Write>(&self, f: &mut fmt::Formatter<W>) -> fmt::Result {
         write!(f, "refused {}", self.number())
     }

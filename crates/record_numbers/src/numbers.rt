@@ -1,7 +1,7 @@
 // A delta record's encoding as plain numbers, and back. The fields of all variants stand side by side; what a variant does not have is 0
 // where the numbers come from an encoding, and is not looked at where an encoding comes from them.
 ghost use Rattle.std.specs.Prelude.{◌≡◌};
-ghost use Rattle.record_numbers.specs.Numbers.{given, numbers_of, known_encoding};
+ghost use Rattle.record_numbers.specs.Numbers.{given, numbers_of, encoding_of, known_encoding};
 ghost use Rattle.record_numbers.specs.Refusals.{conv1_refusal, tested_encoding};
 
 use kinds::{Order, Refusal, Shift, WeightCount};
@@ -78,30 +78,39 @@ impl From<DeltaEncoding> for Numbers {
     }
 }
 
+// The encoding of a variant that is 0 to 3; a greater one is taken for the last.
+pub fn encoding_of(numbers: Numbers) -> DeltaEncoding
+    ensures { result ≡ encoding_of numbers }
+{
+    match numbers.variant {
+        0 => DeltaEncoding::NoOp,
+        1 => DeltaEncoding::Consecutive {
+            order: numbers.order,
+            secondary_uses_delta: numbers.secondary_uses_delta,
+        },
+        2 => DeltaEncoding::Lookback {
+            window_n_log: numbers.window_n_log,
+            state_n_log: numbers.state_n_log,
+            secondary_uses_delta: numbers.secondary_uses_delta,
+        },
+        _ => DeltaEncoding::Conv1 {
+            quantization: numbers.quantization,
+            bias: numbers.bias,
+            order: numbers.order,
+        },
+    }
+}
+
 impl TryFrom<Numbers> for DeltaEncoding {
     type Error = Refusal;
 
     ghost try_from_gives = { λ numbers result. result ≡ known_encoding numbers };
 
     fn try_from(numbers: Numbers) -> Result<Self, Refusal> {
-        match numbers.variant {
-            0 => Ok(DeltaEncoding::NoOp),
-            1 => Ok(DeltaEncoding::Consecutive {
-                order: numbers.order,
-                secondary_uses_delta: numbers.secondary_uses_delta,
-            }),
-            2 => Ok(DeltaEncoding::Lookback {
-                window_n_log: numbers.window_n_log,
-                state_n_log: numbers.state_n_log,
-                secondary_uses_delta: numbers.secondary_uses_delta,
-            }),
-            CONV1 => Ok(DeltaEncoding::Conv1 {
-                quantization: numbers.quantization,
-                bias: numbers.bias,
-                order: numbers.order,
-            }),
-            _ => Err(Refusal::UnknownVariant),
+        if numbers.variant > CONV1 {
+            return Err(Refusal::UnknownVariant);
         }
+        Ok(encoding_of(numbers))
     }
 }
 

@@ -13,7 +13,6 @@ use lib.IntN.{ℤ, pos, nat_abs, ◌+ℤ◌, ◌*ℤ◌, one, *ℤ-one}
 use lib.ListN.{length, get_or, take}
 use lib.Pow.{pow_pos, pow-lt, pow_mono}
 use lib.Seq.{take_all}
-use lib.Signed.{mag}
 use mir.Syntax.{Width}
 use mir.Val.{SFits, hbits}
 use Rattle.rule.specs.Numbers.{greatest, accumulator, limit, Inside}
@@ -48,7 +47,7 @@ one_abs_le zero (w ∷ ws) = omega arith
 one_abs_le (suc i) (w ∷ ws) = omega (arith, one_abs_le i ws)
 
 pub small : (W : ℕ) (z : ℤ) → nat_abs z ≤ limit W → Inside W z
-small W z h = record { inside = h }
+small W z h = record { inside = omega (arith, sizes.mag-le-abs z, pow_pos (accumulator W - 1)) }
 
 pub sample_le : (W x : ℕ) → x < 2 ^ W → x ≤ greatest W
 sample_le W x h = omega arith
@@ -92,9 +91,7 @@ module _ (W : ℕ) (bias : ℤ) (ws : List ℤ) (ok : admitted W bias ws ≡ tru
 
 -- ---- a machine's signed width that has the accumulator's bits, or more
 pub fits : {w : Width} {W : ℕ} {z : ℤ} → accumulator W - 1 ≤ hbits w → Inside W z → SFits w z
-fits {W = W} {z} h k =
-    let below : mag z < 2 ^ (accumulator W - 1) = omega (arith, sizes.mag-le-abs z, k.inside, pow_pos (accumulator W - 1)) in
-    record { sfits = lt_of_lt_of_le below (pow_mono h) }
+fits h k = record { sfits = lt_of_lt_of_le k.inside (pow_mono h) }
 
 -- ---- the sum, one weight more
 next_at : (s : ℤ) (ws : List ℤ) (xs : List ℕ) (i : ℕ) → i < length ws → i < length xs

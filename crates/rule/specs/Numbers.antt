@@ -1,5 +1,6 @@
 -- What the width W of a sample, in bits, decides.
-use Rattle.std.specs.Prelude.{ℕ, ◌-◌, ◌*◌, ◌^◌, ◌≤◌, ℤ, nat_abs}
+use Rattle.std.specs.Prelude.{ℕ, ◌-◌, ◌*◌, ◌^◌, ◌<◌, ℤ}
+use Rattle.std.specs.Int.Signed.{mag}
 
 -- M, the greatest sample
 abbrev pub greatest : ℕ → ℕ
@@ -17,6 +18,6 @@ centre W = 2 ^ (W - 1)
 abbrev pub limit : ℕ → ℕ
 limit W = 2 ^ (accumulator W - 1) - 1
 
--- z lies inside a signed accumulator, whose least number no admitted sum needs
+-- z lies inside the signed accumulator of the width W; a negative number's magnitude is one less than its absolute value
 pub record Inside (W : ℕ) (z : ℤ) : Type 0 where
-  pub inside : nat_abs z ≤ limit W
+  pub inside : mag z < 2 ^ (accumulator W - 1)

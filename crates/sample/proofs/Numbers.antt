@@ -1,5 +1,5 @@
 -- The numbers of a list of samples: what is done to the list is done to the numbers.
-use Rattle.std.proofs.Common.{◌≡◌, sym, ◌∙◌, ap, ap₂, List, ℕ, ◌<◌, zero, suc, refl, [], ◌∷◌, ◌++◌, map, length, get_or, take, drop, set, replicate}
+use Rattle.std.proofs.Common.{◌≡◌, sym, ◌∙◌, ap, ap₂, List, ℕ, ◌<◌, zero, suc, refl, ◌∷◌, ◌++◌, map, length, get_or, take, drop, set, replicate}
 use Rattle.std.proofs.lemmas.List.{map-set, map-append, take-map, drop-map, length-map, get_or-map}
 use borrow.Rule.Slice.PartMut.{put_mid}
 

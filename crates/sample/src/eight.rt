@@ -36,6 +36,10 @@ impl Sample for u8 {
 
     const MID: u8 = 128;
 
+    ghost MODULUS = { 256 };
+
+    const MODULUS: u64 = 256;
+
     fn wrapping_add(self, other: u8) -> u8 {
         u8::wrapping_add(self, other)
     }
@@ -45,7 +49,7 @@ impl Sample for u8 {
     }
 
     fn low_bits(n: u64) -> u8 {
-        (n % 256) as u8
+        (n % Self::MODULUS) as u8
     }
 
     fn to_number(self) -> u32 {
@@ -95,4 +99,6 @@ impl Sample for u8 {
     ghost zero_is = { refl };
 
     ghost mid_is = { refl };
+
+    ghost modulus_is = { refl };
 }

@@ -53,6 +53,11 @@ pub trait Sample: Copy {
 
     const MID: Self;
 
+    ghost MODULUS: { ℕ };
+
+    // How many samples there are.
+    const MODULUS: u64;
+
     fn wrapping_add(self, other: Self) -> Self
         ensures { number result ≡ (number self + number other) % 2 ^ W };
 
@@ -114,6 +119,8 @@ pub trait Sample: Copy {
     ghost zero_is: { number ZERO ≡ 0 };
 
     ghost mid_is: { number MID ≡ 2 ^ (W - 1) };
+
+    ghost modulus_is: { MODULUS ≡ 2 ^ W };
 }
 
 // The samples that start the decoding of a piece, in the first `count` places of a fixed array; the places past them are never read.

@@ -36,6 +36,10 @@ impl Sample for u16 {
 
     const MID: u16 = 32768;
 
+    ghost MODULUS = { 65536 };
+
+    const MODULUS: u64 = 65536;
+
     fn wrapping_add(self, other: u16) -> u16 {
         u16::wrapping_add(self, other)
     }
@@ -45,7 +49,7 @@ impl Sample for u16 {
     }
 
     fn low_bits(n: u64) -> u16 {
-        (n % 65536) as u16
+        (n % Self::MODULUS) as u16
     }
 
     fn to_number(self) -> u32 {
@@ -95,4 +99,6 @@ impl Sample for u16 {
     ghost zero_is = { refl };
 
     ghost mid_is = { refl };
+
+    ghost modulus_is = { refl };
 }

@@ -36,6 +36,10 @@ impl Sample for u32 {
 
     const MID: u32 = 2147483648;
 
+    ghost MODULUS = { 4294967296 };
+
+    const MODULUS: u64 = 4294967296;
+
     fn wrapping_add(self, other: u32) -> u32 {
         u32::wrapping_add(self, other)
     }
@@ -45,7 +49,7 @@ impl Sample for u32 {
     }
 
     fn low_bits(n: u64) -> u32 {
-        (n % 4294967296) as u32
+        (n % Self::MODULUS) as u32
     }
 
     fn to_number(self) -> u32 {
@@ -95,4 +99,6 @@ impl Sample for u32 {
     ghost zero_is = { refl };
 
     ghost mid_is = { refl };
+
+    ghost modulus_is = { refl };
 }

@@ -1,5 +1,5 @@
 -- Lines and columns of a text, both counted from 1.
-use Rattle.std.specs.Prelude.{cond, not, length, take_while, List, ℕ, ◌+◌, eqb}
+use Rattle.std.specs.Prelude.{cond, not, length, take_while, List, ◌++◌, ℕ, ◌+◌, eqb, codes, decimal}
 use Rattle.std.specs.List.{fold}
 use Rattle.text.specs.declared.places.Place.{Place}
 
@@ -14,3 +14,7 @@ stepped place b = cond (eqb b 10) (record { line = place.line + 1; column = 1 })
 -- the place after all of these bytes
 unfoldable pub place_after : Place → List ℕ → Place
 place_after place text = fold stepped place text
+
+-- what is printed of a place
+abbrev pub place_text : Place → List ℕ
+place_text place = codes "line " ++ decimal place.line ++ codes ", column " ++ decimal place.column

@@ -1,6 +1,6 @@
 // Lines of a text, and the line and column of a place in it.
-ghost use Rattle.std.specs.Prelude.{◌≡◌, ◌-◌, ◌≤◌, ◌<◌, ◌^◌, length};
-ghost use Rattle.text.specs.Places.{line_length, stepped, place_after};
+ghost use Rattle.std.specs.Prelude.{◌≡◌, ◌-◌, ◌≤◌, ◌<◌, ◌^◌, length, Some};
+ghost use Rattle.text.specs.Places.{line_length, stepped, place_after, place_text};
 
 use std::fmt;
 
@@ -12,6 +12,8 @@ pub struct Place {
 }
 
 impl fmt::Display for Place {
+    ghost output = { λ place. Some (place_text place) };
+
     fn fmt<W: fmt::Write>(&self, f: &mut fmt::Formatter<W>) -> fmt::Result {
         write!(f, "line {}, column {}", self.line, self.column)
     }

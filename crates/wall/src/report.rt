@@ -42,7 +42,9 @@ fn decode_pieces(
 }
 
 // How many samples came back: outputs stand from place k on, and after them come the k samples of the last state.
-fn agreeing(c: Head, last: Coded, trace: &[u64]) -> usize {
+fn agreeing(c: Head, last: Coded, trace: &[u64]) -> usize
+    ensures { result ≤ length trace.now }
+{
     let k = c.order.0;
     let row = to_samples(c.width, &last.row);
     let state = to_samples(c.width, &last.state);

@@ -67,4 +67,6 @@ returns g c =
     batches.ended g.S.Sample.W _ _ (g.S.Sample.numbers c.args.state.now) _ c.requires.full l.invariant.1
     (omega (arith, turning.mixed_long g.S.Sample.W l.i (g.S.Sample.numbers l.residuals), past)) in
     let coded = c.toggle_center_in_place.ensures in
-    decodes_twice (record { outputs_are = rw coded at (sym whole ∙ e.0); next_is = ap g.S.Sample.numbers c.copy_from_slice.ensures.after ∙ (rw coded at e.1) })
+    let known = l.running.samples in
+    let long : length known ≡ 6 = sym (numbers.numbers-length are known) ∙ l.invariant.0.samples in
+    decodes_twice (record { outputs_are = rw coded at (sym whole ∙ e.0); next_is = ap g.S.Sample.numbers (c.copy_from_slice.ensures.after ∙ running.all_six known long _ _ _ _ _ _) ∙ (rw coded at e.1) })
