@@ -19,12 +19,16 @@ pub fn fitted_answer(order: Order, count: WeightCount) -> Result<(), Refusal>
     Ok(())
 }
 
-// The lent floats in the first places of an array.
+// The lent floats in the first places of an array. They are counted by hand: so a wrong program can leave out every second of them.
 pub fn held(fitted: &[f64]) -> [f64; 32]
     requires { length fitted.now ≤ 32 }
     ensures { take (length fitted.now) result ≡ fitted.now }
 {
     let mut weights = [0.0; 32];
-    weights[..fitted.len()].copy_from_slice(fitted);
+    let mut i = 0;
+    while i < fitted.len() {
+        weights[i] = fitted[i];
+        i += 1;
+    }
     weights
 }
