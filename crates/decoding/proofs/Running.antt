@@ -8,12 +8,12 @@ use native.Mathlib.Nat.{not-suc-le-zero, le_of_suc-le-suc}
 use native.Mathlib.Numerals.{add-one}
 use native.Mathlib.Omega.{arith}
 use lib.Dec.{lit<}
-use lib.IntN.{ℤ, pos, ◌+ℤ◌, ◌*ℤ◌, *ℤ-zero, +ℤ_idr}
+use lib.IntN.{ℤ, pos, nat_abs, ◌+ℤ◌, ◌*ℤ◌, *ℤ-zero, +ℤ_idr}
 use lib.ListN.{length, get_or, take, drop, length-append, length-take, length-drop, length-map}
 use lib.Pow.{pow_pos}
 use lib.Seq.{get_or_at, take-suc, drop-append-le, drop-drop, get_or-drop}
 use Rattle.std.proofs.lemmas.List.{get_or-map}
-use Rattle.rule.specs.Numbers.{Inside}
+use Rattle.rule.specs.Numbers.{accumulator}
 use Rattle.rule.specs.Prediction.{admitted, sum_at}
 use Rattle.rule.proofs.Sums.{prefix_inside, product_inside, sum_next, sum_whole}
 use Rattle.sample.proofs.Numbers.{numbers-append, numbers-drop}
@@ -142,9 +142,9 @@ module _ {W : ℕ} {bias : ℤ} {ws : List ℤ} {xs : List ℕ} {ns : List ℤ} 
         get_or_at (drop (6 - i) xs) y [] 0 i (as_many i h),
       )
 
-  -- what is asked where a term is added
+  -- where a term is added, it lies inside the accumulator, and the sum with it does
   pub asked : (i : ℕ) → i < 6 → {n : ℤ} → n ≡ sum_at bias (take i ws) (drop (6 - i) xs)
-      → Inside W (get_or ws i (pos 0) *ℤ pos y) × Inside W (n +ℤ get_or ws i (pos 0) *ℤ pos y)
+      → (nat_abs (get_or ws i (pos 0) *ℤ pos y) < 2 ^ (accumulator W - 1)) × (nat_abs (n +ℤ get_or ws i (pos 0) *ℤ pos y) < 2 ^ (accumulator W - 1))
   asked i h is = (
     product_inside W bias ws r.admits i y small,
     rw (is, ← sum_more i h)
@@ -192,7 +192,8 @@ module _ {Z : Type 0} (wide : Z → ℤ) (ws ns : List Z) {W : ℕ} {bias : ℤ}
 
   -- the sum in place j has a term for each of the first 6 - j weights
   pub asked_at : (j : ℕ) → 1 ≤ j → j < 6 → get_or (map wide ns) j (pos 0) ≡ sum_at bias (take (6 - j) (map wide ws)) (drop (6 - (6 - j)) xs)
-      → (n w : Z) (y : ℕ) → y < 2 ^ W → Inside W (wide (get_or ws (6 - j) w) *ℤ pos y) × Inside W (wide (get_or ns j n) +ℤ wide (get_or ws (6 - j) w) *ℤ pos y)
+      → (n w : Z) (y : ℕ) → y < 2 ^ W
+      → (nat_abs (wide (get_or ws (6 - j) w) *ℤ pos y) < 2 ^ (accumulator W - 1)) × (nat_abs (wide (get_or ns j n) +ℤ wide (get_or ws (6 - j) w) *ℤ pos y) < 2 ^ (accumulator W - 1))
   asked_at j some few is n w y small =
       rw (← weight_is (6 - j) (omega arith) w, ← sum_is j few n) (asked r y small (6 - j) (omega arith) is)
 
@@ -202,7 +203,8 @@ module _ {Z : Type 0} (wide : Z → ℤ) (ws ns : List Z) {W : ℕ} {bias : ℤ}
   made_at j some few n w y e = rw (weight_is (6 - j) (omega arith) w, sum_is j few n) e
 
   -- the last sum is new, and has the first weight's term alone
-  pub asked_first : (w : Z) (y : ℕ) → y < 2 ^ W → Inside W (wide (get_or ws 0 w) *ℤ pos y) × Inside W (bias +ℤ wide (get_or ws 0 w) *ℤ pos y)
+  pub asked_first : (w : Z) (y : ℕ) → y < 2 ^ W
+      → (nat_abs (wide (get_or ws 0 w) *ℤ pos y) < 2 ^ (accumulator W - 1)) × (nat_abs (bias +ℤ wide (get_or ws 0 w) *ℤ pos y) < 2 ^ (accumulator W - 1))
   asked_first w y small = rw (← weight_is 0 (lit< tt) w) (asked r y small 0 (lit< tt) refl)
 
   pub made_first : (w : Z) {v : ℤ} (y : ℕ) → v ≡ bias +ℤ wide (get_or ws 0 w) *ℤ pos y → v ≡ bias +ℤ get_or (map wide ws) 0 (pos 0) *ℤ pos y

@@ -1,11 +1,11 @@
 -- The sum of a prediction as its loop makes it, over the width W. A sample is known to be one once its term is added.
-use Rattle.std.proofs.Common.{◌≡◌, refl, sym, ap, ◌∙◌, true, List, [], ◌∷◌, ◌++◌, ℕ, zero, suc, ◌+◌, ◌^◌, ◌≤◌, ◌<◌, ℤ, pos, ◌+ℤ◌, ◌*ℤ◌, length, get_or, take, arith}
+use Rattle.std.proofs.Common.{◌≡◌, refl, sym, ap, ◌∙◌, true, List, [], ◌∷◌, ◌++◌, ℕ, zero, suc, ◌+◌, ◌-◌, ◌^◌, ◌≤◌, ◌<◌, ℤ, pos, nat_abs, ◌+ℤ◌, ◌*ℤ◌, length, get_or, take, arith}
 use Rattle.std.proofs.Math.Nat.{not-suc-le-zero, eq-or-lt_of_le}
 use Rattle.std.proofs.lemmas.Bool.{cases_lt}
 use Rattle.std.proofs.Math.Logic.{⊎_elim}
 use Rattle.std.proofs.Math.Seq.{get_or-append_seam}
 use Rattle.std.proofs.lemmas.List.{get_or_append_left, get_or-take, length-take-le, get_or_past, length-append}
-use Rattle.rule.specs.Numbers.{Inside}
+use Rattle.rule.specs.Numbers.{accumulator}
 use Rattle.rule.specs.Prediction.{admitted, sum_at}
 use Rattle.rule.proofs.Sums as sums
 
@@ -56,7 +56,8 @@ module _ {W : ℕ} {ws : List ℤ} {xs : List ℕ} {b s : ℤ} {i : ℕ} (ok : a
           (cases_lt j i)
 
   -- the next term fits, and so does the sum with it, whatever the next sample is
-  pub fits : (x : ℕ) → x < 2 ^ W → Inside W (get_or ws i (pos 0) *ℤ pos x) × Inside W (s +ℤ get_or ws i (pos 0) *ℤ pos x)
+  pub fits : (x : ℕ) → x < 2 ^ W
+      → (nat_abs (get_or ws i (pos 0) *ℤ pos x) < 2 ^ (accumulator W - 1)) × (nat_abs (s +ℤ get_or ws i (pos 0) *ℤ pos x) < 2 ^ (accumulator W - 1))
   fits x h =
       let whole = sums.prefix_inside W b ws ok (i + 1) (with_next x) (samples x h) in
       let step = sums.sum_next b ws (with_next x) i in_weights (omega (arith, long, length-append (take i xs) (x ∷ []))) in

@@ -13,11 +13,11 @@ use Rattle.kinds.specs.declared.Shift.{Shift}
 use Rattle.rule.specs.Numbers.{accumulator}
 use Rattle.rule.specs.Configuration.{Config, config, held}
 use Rattle.rule.specs.Prediction.{Ready}
-use Rattle.rule.proofs.Sums.{bias_inside, fits}
+use Rattle.rule.proofs.Sums.{size_inside, bias_inside, fits}
 
 -- the bias comes back from its bits
 pub bias_back : {W : ℕ} {c : Config} → Ready W c → (w : Width) → accumulator W - 1 ≤ hbits w → to_z w (of_z w c.bias) ≡ c.bias
-bias_back {W} {c} r w h = to_z-of_z (fits h (bias_inside W c.bias c.weights r.admits))
+bias_back {W} {c} r w h = to_z-of_z (fits h (size_inside (bias_inside W c.bias c.weights r.admits)))
 
 -- the first k places of the array are the weights
 pub weights_held : {W : ℕ} {c : Config} → Ready W c → {wide : List ℤ} → wide ≡ c.weights ++ replicate (32 - length c.weights) (pos 0)

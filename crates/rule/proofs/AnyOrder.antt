@@ -1,20 +1,20 @@
 -- Whatever the order in which the terms of an admitted configuration are added to its bias, no sum on the way leaves the
--- accumulator: `any_order`. Nothing else leans on it; the code adds in weight order.
+-- accumulator, or is its least number: `any_order`. Nothing else leans on it; the code adds in weight order.
 -- Assumes nothing.
 use mathlib.Core.Path.{◌≡◌, refl, ap, ◌∙◌}
 use mathlib.Core.Bool.{true}
 use mathlib.Core.List.{List, [], ◌∷◌}
-use Prim.Native.Nat.{ℕ, suc, ◌+◌, ◌*◌, ◌≤◌}
+use Prim.Native.Nat.{ℕ, suc, ◌+◌, ◌-◌, ◌*◌, ◌^◌, ◌≤◌, ◌<◌}
 use native.Mathlib.Nat.{mul-add}
 use native.Mathlib.Omega.{arith}
 use lib.IntN.{ℤ, pos, nat_abs, ◌+ℤ◌, ◌*ℤ◌}
 use lib.ListN.{get_or, take}
-use Rattle.rule.specs.Numbers.{greatest}
+use lib.Pow.{pow_pos}
+use Rattle.rule.specs.Numbers.{greatest, accumulator}
 use Rattle.rule.specs.Prediction.{sum_abs, admitted, sum_at}
 use Rattle.rule.specs.AnyOrder.{terms, added, Reordered, none, keep, swap, both}
 use Rattle.rule.proofs.Sizes as sizes
 use Rattle.rule.proofs.Sums as sums
-use Rattle.rule.specs.Numbers.{Inside}
 use Rattle.rule.proofs.Sums.{Samples}
 
 -- the rule's own sum adds these terms in weight order
@@ -43,14 +43,14 @@ reordered_abs (swap {t = t} {u = u} {us = us}) = turn (nat_abs t) (nat_abs u) (s
 reordered_abs (both r q) = reordered_abs r ∙ reordered_abs q
 
 module _ (W : ℕ) (bias : ℤ) (ws : List ℤ) (xs : List ℕ) (ok : admitted W bias ws ≡ true) (samples : Samples W xs) where
-  pub any_order : {ts : List ℤ} → Reordered (terms ws xs) ts → (j : ℕ) → Inside W (added bias (take j ts))
+  pub any_order : {ts : List ℤ} → Reordered (terms ws xs) ts → (j : ℕ) → nat_abs (added bias (take j ts)) < 2 ^ (accumulator W - 1)
   any_order {ts} r j =
-      sums.small W (added bias (take j ts))
-      (omega (
+      omega (
         arith,
         added_abs_le bias (take j ts),
         sums.first_abs_le j ts,
         reordered_abs r,
         terms_abs_le (greatest W) ws xs (λ i. sums.sample_le W (get_or xs i 0) (samples.below i)),
         sums.within W bias ws ok,
-      ))
+        pow_pos (accumulator W - 1),
+      )

@@ -1,5 +1,6 @@
 -- The sums of a prediction, over the width W. Above `admitted` stand two laws alone: on any samples of W bits every sum of the
--- first weights, from the bias, and every product lies inside the accumulator. What else is needed of them follows here.
+-- first weights, from the bias, and every product lies inside the accumulator, and none is its least number. What else is needed of them
+-- follows here.
 -- Assumes nothing.
 use mathlib.Core.Path.{◌≡◌, refl}
 use mathlib.Core.Bool.{true}
@@ -49,6 +50,13 @@ one_abs_le (suc i) (w ∷ ws) = omega (arith, one_abs_le i ws)
 pub small : (W : ℕ) (z : ℤ) → nat_abs z ≤ limit W → Inside W z
 small W z h = record { inside = omega (arith, sizes.mag-le-abs z, pow_pos (accumulator W - 1)) }
 
+pub size_inside : {W : ℕ} {z : ℤ} → nat_abs z < 2 ^ (accumulator W - 1) → Inside W z
+size_inside {W} {z} h = small W z (omega (arith, h))
+
+-- a term and the sum with it, as they are asked for where the term is added
+pub sizes_inside : {W : ℕ} {y z : ℤ} → (nat_abs y < 2 ^ (accumulator W - 1)) × (nat_abs z < 2 ^ (accumulator W - 1)) → Inside W y × Inside W z
+sizes_inside h = (size_inside h.0, size_inside h.1)
+
 pub sample_le : (W x : ℕ) → x < 2 ^ W → x ≤ greatest W
 sample_le W x h = omega arith
 
@@ -61,32 +69,32 @@ module _ (W : ℕ) (bias : ℤ) (ws : List ℤ) (ok : admitted W bias ws ≡ tru
   unfolding admitted
   within = leb-true (nat_abs bias + greatest W * sum_abs ws) (limit W) ok
 
-  -- ---- the two laws: a sum of the first weights, from the bias, and a product
-  pub prefix_inside : (i : ℕ) (xs : List ℕ) → Samples W xs → Inside W (sum_at bias (take i ws) xs)
+  -- ---- the two laws: the size of a sum of the first weights, from the bias, and of a product
+  pub prefix_inside : (i : ℕ) (xs : List ℕ) → Samples W xs → nat_abs (sum_at bias (take i ws) xs) < 2 ^ (accumulator W - 1)
   prefix_inside i xs s =
-      small W (sum_at bias (take i ws) xs)
-      (omega (
+      omega (
         arith,
         sum_abs_le (greatest W) bias (take i ws) xs (λ j. sample_le W (get_or xs j 0) (s.below j)),
         mul-le-mul_left (greatest W) (first_abs_le i ws),
         within,
-      ))
+        pow_pos (accumulator W - 1),
+      )
 
-  pub product_inside : (i x : ℕ) → x < 2 ^ W → Inside W (get_or ws i (pos 0) *ℤ pos x)
+  pub product_inside : (i x : ℕ) → x < 2 ^ W → nat_abs (get_or ws i (pos 0) *ℤ pos x) < 2 ^ (accumulator W - 1)
   product_inside i x h =
-      small W (get_or ws i (pos 0) *ℤ pos x)
-      (omega (
+      omega (
         arith,
         sizes.product_abs_le (greatest W) (get_or ws i (pos 0)) x (sample_le W x h),
         mul-le-mul_left (greatest W) (one_abs_le i ws),
         within,
-      ))
+        pow_pos (accumulator W - 1),
+      )
 
   -- ---- what follows of the bias and of a weight
-  pub bias_inside : Inside W bias
+  pub bias_inside : nat_abs bias < 2 ^ (accumulator W - 1)
   bias_inside = prefix_inside 0 [] (record { below = λ i. pow_pos W })
 
-  pub weight_inside : 0 < W → (i : ℕ) → Inside W (get_or ws i (pos 0))
+  pub weight_inside : 0 < W → (i : ℕ) → nat_abs (get_or ws i (pos 0)) < 2 ^ (accumulator W - 1)
   weight_inside h i = rw times_one at (product_inside i 1 (pow-lt h))
 
 -- ---- a machine's signed width that has the accumulator's bits, or more

@@ -1,27 +1,28 @@
 -- The sums are those of `Running`, and so each term fits, whatever the new sample is.
 use Rattle.std.proofs.Common.{◌≡◌, ◌∙◌, sym, ap, length}
 use lib.Dec.{lit<, lit≤}
+use Rattle.rule.proofs.Sums as sums
 use Rattle.sample.proofs.Numbers as numbers
 use Rattle.decoding.proofs.Running as law
 use Rattle.decoding.proofs.order_six.next.Goals as goal
 
 pub add_wide_product-requires : goal.add_wide_product-requires
-add_wide_product-requires g c = law.asked_at g.S.Sample.wide _ _ c.requires 1 (lit≤ tt) (lit< tt) (law.sum_at_lem c.requires 1) _ _
+add_wide_product-requires g c = λ y small. sums.sizes_inside (law.asked_at g.S.Sample.wide _ _ c.requires 1 (lit≤ tt) (lit< tt) (law.sum_at_lem c.requires 1) _ _ y small)
 
 pub add_wide_product-requires-2 : goal.add_wide_product-requires-2
-add_wide_product-requires-2 g c = law.asked_at g.S.Sample.wide _ _ c.requires 2 (lit≤ tt) (lit< tt) (law.sum_at_lem c.requires 2) _ _
+add_wide_product-requires-2 g c = λ y small. sums.sizes_inside (law.asked_at g.S.Sample.wide _ _ c.requires 2 (lit≤ tt) (lit< tt) (law.sum_at_lem c.requires 2) _ _ y small)
 
 pub add_wide_product-requires-3 : goal.add_wide_product-requires-3
-add_wide_product-requires-3 g c = law.asked_at g.S.Sample.wide _ _ c.requires 3 (lit≤ tt) (lit< tt) (law.sum_at_lem c.requires 3) _ _
+add_wide_product-requires-3 g c = λ y small. sums.sizes_inside (law.asked_at g.S.Sample.wide _ _ c.requires 3 (lit≤ tt) (lit< tt) (law.sum_at_lem c.requires 3) _ _ y small)
 
 pub add_wide_product-requires-4 : goal.add_wide_product-requires-4
-add_wide_product-requires-4 g c = law.asked_at g.S.Sample.wide _ _ c.requires 4 (lit≤ tt) (lit< tt) (law.sum_at_lem c.requires 4) _ _
+add_wide_product-requires-4 g c = λ y small. sums.sizes_inside (law.asked_at g.S.Sample.wide _ _ c.requires 4 (lit≤ tt) (lit< tt) (law.sum_at_lem c.requires 4) _ _ y small)
 
 pub add_wide_product-requires-5 : goal.add_wide_product-requires-5
-add_wide_product-requires-5 g c = law.asked_at g.S.Sample.wide _ _ c.requires 5 (lit≤ tt) (lit< tt) (law.sum_at_lem c.requires 5) _ _
+add_wide_product-requires-5 g c = λ y small. sums.sizes_inside (law.asked_at g.S.Sample.wide _ _ c.requires 5 (lit≤ tt) (lit< tt) (law.sum_at_lem c.requires 5) _ _ y small)
 
 pub add_wide_product-requires-6 : goal.add_wide_product-requires-6
-add_wide_product-requires-6 g c = law.asked_first g.S.Sample.wide _ _ c.requires _
+add_wide_product-requires-6 g c = λ y small. sums.sizes_inside (law.asked_first g.S.Sample.wide _ _ c.requires _ y small)
 
 pub returns : goal.returns
 returns g c =

@@ -14,14 +14,14 @@ weight_is wide narrow e = to_z-of_z wide ∙ e ∙ to_z-of_z narrow
 
 pub conv-requires : goal.conv-requires
 conv-requires g c =
-    rw (weight_is {w = get_or c.args.config.weights.now c.loop-i.i (pos 0)} (record { sfits = c.from.type_inv }) (search rules) c.from.ensures) (sums.weight_inside g.S.Sample.W c.args.config.bias c.args.config.weights.now c.requires.admits g.met.S.Sample.some_bits c.loop-i.i)
+    rw (weight_is {w = get_or c.args.config.weights.now c.loop-i.i (pos 0)} (record { sfits = c.from.type_inv }) (search rules) c.from.ensures) (sums.size_inside (sums.weight_inside g.S.Sample.W c.args.config.bias c.args.config.weights.now c.requires.admits g.met.S.Sample.some_bits c.loop-i.i))
 
 pub loop-i-preserved : goal.loop-i-preserved
 loop-i-preserved g c =
     rw map-set (filling.fill_turn (pos 0) (omega arith) (c.conv.ensures ∙ weight_is {w = get_or c.args.config.weights.now c.loop-i.i (pos 0)} (record { sfits = c.from.type_inv }) (search rules) c.from.ensures) c.loop-i.invariant)
 
 pub conv-requires-2 : goal.conv-requires-2
-conv-requires-2 g c = rw (to_z-of_z {w = w64} {z = c.args.config.bias} (search rules)) (sums.bias_inside g.S.Sample.W c.args.config.bias c.args.config.weights.now c.requires.admits)
+conv-requires-2 g c = rw (to_z-of_z {w = w64} {z = c.args.config.bias} (search rules)) (sums.size_inside (sums.bias_inside g.S.Sample.W c.args.config.bias c.args.config.weights.now c.requires.admits))
 
 all_held : {A : Type 0} (f : A → ℤ) (ws : List ℤ) (array : List A) {i : ℕ} → length ws ≤ i → i ≤ length ws
     → filling.Filled (λ (j : ℕ). get_or ws j (pos 0)) (replicate 32 (pos 0)) (map f array) i

@@ -2,6 +2,7 @@
 use Rattle.std.proofs.Common.{◌≡◌, ◌∙◌, sym, true, pos, length, map, ◌<◌}
 use Rattle.std.proofs.lemmas.List.{length-map}
 use Rattle.rule.specs.Prediction.{prediction, admitted}
+use Rattle.rule.proofs.Sums as sums
 use Rattle.sample.proofs.Numbers as numbers
 use Rattle.predict.proofs.Adding as adding
 use Rattle.predict.proofs.prediction.predict_one.Goals as goal
@@ -15,10 +16,10 @@ add_product-sum-requires g c =
     let ok : admitted g.S.Sample.W (integer c.args.config.now.bias) (map integer ws) ≡ true = rw known ready.admits in
     let weight = numbers.map-at integer ws c.loop-i.i (pos 0) c.loop-i-test.true c.weight-item.is in
     let long : length ws ≡ length c.args.window.now = rw known (sym (length-map _ integer) ∙ ready.weights) ∙ sym c.requires.0 in
-    rw (sym weight) (
+    rw (sym weight) (λ x small. sums.sizes_inside (
     adding.fits ok (rw (length-map ws integer) c.loop-i-test.true)
-    (rw (numbers.numbers-length g.met.S.Sample.numbers_are c.args.window.now, sym long) c.loop-i-test.true) c.loop-i.invariant
-    )
+    (rw (numbers.numbers-length g.met.S.Sample.numbers_are c.args.window.now, sym long) c.loop-i-test.true) c.loop-i.invariant x small
+    ))
 
 pub loop-i-preserved : goal.loop-i-preserved
 loop-i-preserved g c =
